@@ -1,32 +1,23 @@
 // Runs the program on each stored script that its arguments name, and writes the name before what it prints.
 #![tactic(auto)]
 
-use libc::STDOUT_FILENO;
+use std::rt::Files;
+use std::{env, fs, io};
 
-fn run_case(path: &[u8]) {
-    io::write_all(STDOUT_FILENO, b"== ");
-    io::write_all(STDOUT_FILENO, path);
-    io::write_all(STDOUT_FILENO, b"\n");
-    let fd = os::open_read(path);
-    if fd < 0 {
-        os::fail(path);
-        return;
+fn run_case(rt: &(impl Files + Print + Eprint), path: &str) -> io::Result<()> {
+    println!(rt; "== {path}")?;
+    match fs::open(rt, path) {
+        Ok(mut script) => {
+            stream::serve(rt, &mut script, &mut io::writer(rt));
+            Ok(())
+        }
+        Err(error) => eprintln!(rt; "{path}: {error}"),
     }
-    stream::serve(fd);
-    libc::close(fd);
 }
 
-fn run_argument(i: usize) {
-    let mut path = io::buffer();
-    let length = os::arg(i, &mut path);
-    run_case(&path[..length]);
-}
-
-fn main() {
-    let count = os::arg_count();
-    let mut i: usize = 1;
-    while i < count {
-        run_argument(i);
-        i += 1;
+fn main(rt: HostRuntime) -> io::Result<()> {
+    for path in env::args(&rt)?.skip(1) {
+        run_case(&rt, path.as_str())?;
     }
+    Ok(())
 }

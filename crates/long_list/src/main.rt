@@ -8,6 +8,7 @@ ghost use Rattle.promises.specs.Slices.{slices};
 ghost use Rattle.long_list.specs.Repeated.{Filled, is_answer, answers_of, Repeated, Obeyed};
 
 use rules::Answer;
+use std::io;
 
 // The block repeats the commands.
 fn fill(block: &mut [u32], commands: &[u32])
@@ -98,27 +99,22 @@ fn obey(
     }
 }
 
-fn say(objects: usize, end: Answer, links: usize) {
-    io::print_decimal(1, objects as u64);
-    io::write_all(1, b" objects, end ");
-    io::print_decimal(1, end.number as u64);
-    io::write_all(1, b" ");
-    io::print_decimal(1, end.value as u64);
-    io::write_all(1, b", ");
-    io::print_decimal(1, links as u64);
-    io::write_all(1, b" links\n");
+fn say(rt: &impl Print, objects: usize, end: Answer, links: usize) -> io::Result<()> {
+    let Answer { number, value } = end;
+    println!(rt; "{objects} objects, end {number} {value}, {links} links")
 }
 
 // Makes a list in an epoch, ends the epoch and walks the list: the new object is in variable 1, the head of the list in variable 0. The
 // walk has as many loads as commands made the list, and those past the last object are refused.
 fn list(
+    rt: &impl Print,
     cells: &mut [u32],
     remember: &mut [u32],
     tables: &mut [u32],
     chains: &mut [u32],
     block: &mut [u32],
     answers: &mut [u32],
-)
+) -> io::Result<()>
     requires { length answers.old ≤ 6000 }
 {
     prepare::taldreku_prepare(1, 4, 1, 1024, 0, cells, remember, tables, chains);
@@ -128,10 +124,10 @@ fn list(
     let end = obey(cells, remember, tables, chains, 2);
     fill(block, &[6, 0, 0, 0, 0]);
     let links = run_all(cells, remember, tables, chains, block, answers, 0, 1);
-    say(made / 3, end, links);
+    say(rt, made / 3, end, links)
 }
 
-fn main() {
+fn main(rt: HostRuntime) -> io::Result<()> {
     let mut cells = [0u32; 262144];
     let mut remember = [0u32; 2];
     let mut tables = [0u32; 3086];
@@ -139,21 +135,23 @@ fn main() {
     let mut block = [0u32; 7665];
     let mut answers = [1u32; 3066];
     list(
+        &rt,
         &mut cells,
         &mut remember,
         &mut tables,
         &mut chains,
         &mut block,
         &mut answers,
-    );
+    )?;
     let mut longer = [0u32; 15000];
     let mut room = [1u32; 6000];
     list(
+        &rt,
         &mut cells,
         &mut remember,
         &mut tables,
         &mut chains,
         &mut longer,
         &mut room,
-    );
+    )
 }

@@ -1,4 +1,4 @@
-// The program's loop: it reads a script from a file, to its end, and writes to standard output. A read or a write that fails is told on
+// The program's loop: it reads a script to its end and writes what the program prints for it. A read or a write that fails is told on
 // standard error and ends it.
 #![tactic(auto)]
 
@@ -9,8 +9,8 @@ ghost use Rattle.lines.specs.Lines.{Lent};
 ghost use Rattle.stages.specs.Stages.{At, Placed, line_of};
 ghost use Rattle.stream.specs.Turns.{Buffers, within, ending_of, goes_on, Advances, Turned, Serves};
 
-use libc::{STDERR_FILENO, STDOUT_FILENO};
 use stages::{Fed, Stage};
+use std::io::{Read, Write};
 
 // A piece of the input: so many bytes, none at its end, or the read failed.
 #[derive(Clone, Copy)]
@@ -53,28 +53,29 @@ pub struct Served {
 }
 
 // Reads a piece to the start of a buffer.
-fn read_piece(fd: i32, text: &mut [u8]) -> Piece
+fn read_piece(rt: &impl Eprint, input: &mut impl Read, text: &mut [u8]) -> Piece
     ensures { within result ≤ length text.new }
 {
-    let got = libc::read(fd, text);
-    if got < 0 {
-        io::write_all(STDERR_FILENO, b"taldreku: the input cannot be read\n");
-        return Piece::Unread;
+    match input.read(text) {
+        Ok(n) => Piece::Bytes(n),
+        Err(_) => {
+            let _ = eprintln!(rt; "taldreku: the input cannot be read");
+            Piece::Unread
+        }
     }
-    Piece::Bytes(io::count(got, text))
 }
 
 // Hands bytes to the write.
-fn print(bytes: &[u8]) -> Printed
+fn print(rt: &impl Eprint, output: &mut impl Write, bytes: &[u8]) -> Printed
     ensures { result.length ≡ length bytes.now }
 {
-    let taken = io::write_all(STDOUT_FILENO, bytes);
+    let taken = output.write_all(bytes).is_ok();
     if !taken {
-        io::write_all(STDERR_FILENO, b"taldreku: the output cannot be written\n");
+        let _ = eprintln!(rt; "taldreku: the output cannot be written");
     }
     Printed {
         length: bytes.len(),
-        taken: taken,
+        taken,
     }
 }
 
@@ -130,7 +131,9 @@ fn goes_on(ending: Ending) -> bool
 
 // One piece of the input: it is read, fed, and what it prints is handed to the write.
 fn turn(
-    fd: i32,
+    rt: &impl Eprint,
+    input: &mut impl Read,
+    output: &mut impl Write,
     stage: Stage,
     text: &mut [u8],
     cells: &mut [u32],
@@ -144,7 +147,7 @@ fn turn(
     ensures turned { Turned stage (slices cells.old remember.old tables.old chains.old) out.old result text.new out.new (slices cells.new remember.new tables.new chains.new) }
     ensures read_in_bounds { (result.read ≤ length text.new) × (result.printed ≤ 36084) }
 {
-    let piece = read_piece(fd, text);
+    let piece = read_piece(rt, input, text);
     match piece {
         Piece::Unread => Outcome {
             ending: Ending::Unread,
@@ -156,7 +159,7 @@ fn turn(
             let fed = advance(stage, &text[..n], cells, remember, tables, chains, out);
             let length = fed.length;
             let next = fed.stage;
-            let printed = print(&out[..length]);
+            let printed = print(rt, output, &out[..length]);
             Outcome {
                 ending: ending_at(next, printed.taken),
                 stage: next,
@@ -169,7 +172,9 @@ fn turn(
 
 // Piece after piece until the program stops. A proved loop has to end, and nothing says that an input does: so many turns are no input's.
 fn go_on(
-    fd: i32,
+    rt: &impl Eprint,
+    input: &mut impl Read,
+    output: &mut impl Write,
     text: &mut [u8],
     cells: &mut [u32],
     remember: &mut [u32],
@@ -186,7 +191,9 @@ fn go_on(
     let mut printed: u64 = 0;
     let mut turns: u64 = 281474976710656;
     while turns > 0 {
-        let done = turn(fd, stage, text, cells, remember, tables, chains, out);
+        let done = turn(
+            rt, input, output, stage, text, cells, remember, tables, chains, out,
+        );
         read += done.read as u64;
         printed += done.printed as u64;
         let ending = done.ending;
@@ -207,8 +214,8 @@ fn go_on(
     }
 }
 
-// Reads the script in a file that is open and writes what the program prints for it.
-pub fn serve(fd: i32) -> Served
+// Reads the script that a reader gives and writes what the program prints for it.
+pub fn serve(rt: &impl Eprint, input: &mut impl Read, output: &mut impl Write) -> Served
     ensures { Serves result }
 {
     let mut text = [0u8; 16384];
@@ -218,7 +225,9 @@ pub fn serve(fd: i32) -> Served
     let mut chains = [0u32; 1153];
     let mut out = [0u8; 36084];
     go_on(
-        fd,
+        rt,
+        input,
+        output,
         &mut text,
         &mut cells,
         &mut remember,

@@ -1,6 +1,6 @@
 // The program (01): a script on standard input, its answers and the report on standard output.
 #![tactic(auto)]
 
-fn main() {
-    stream::serve(libc::STDIN_FILENO);
+fn main(rt: HostRuntime) {
+    stream::serve(&rt, &mut rt.stdin(), &mut rt.stdout());
 }
