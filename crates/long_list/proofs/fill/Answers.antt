@@ -1,0 +1,12 @@
+use Rattle.std.proofs.Common.{arith}
+use Rattle.long_list.specs.Repeated.{filled_none, filled_more, filled-to}
+use Rattle.long_list.proofs.fill.Goals as goal
+
+pub loop-i-init : goal.loop-i-init
+loop-i-init c = (omega arith, filled_none _ _)
+
+pub loop-i-preserved : goal.loop-i-preserved
+loop-i-preserved c = (omega (arith, c.loop-i.invariant.1.long), filled_more c.loop-i.invariant.1 (omega (arith, c.loop-i.invariant.1.long)))
+
+pub returns : goal.returns
+returns c = filled-to c.loop-i.invariant.1 (omega (arith, c.loop-i.invariant.1.long))
