@@ -12,9 +12,9 @@ returns-then-chains-last c = says-no (λ w. omega (arith, whole_long c.requires.
 
 pub words_agree-requires : goal.words_agree-requires
 words_agree-requires c = record {
-      listed = chainable-listed c.requires c.last_region-last.ensures;
-      entries_in_bounds = omega (arith, c.if-chains-last.false);
-    }
+  listed = chainable-listed c.requires c.last_region-last.ensures;
+  entries_in_bounds = omega (arith, c.if-chains-last.false);
+}
 
 pub returns : goal.returns
 returns c = (

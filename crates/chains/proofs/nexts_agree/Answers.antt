@@ -25,9 +25,9 @@ overflow_sub-i c = omega arith
 
 pub region-requires : goal.region-requires
 region-requires c = record {
-      entries_in_bounds = c.requires.listed.long;
-      i_lt_entries = omega (arith, c.requires.listed.room, c.loop-i.invariant.0);
-    }
+  entries_in_bounds = c.requires.listed.long;
+  i_lt_entries = omega (arith, c.requires.listed.room, c.loop-i.invariant.0);
+}
 
 pub next-requires : goal.next-requires
 next-requires c = omega (arith, c.requires.listed.room, c.requires.entries_in_bounds, c.loop-i.invariant.0)
@@ -40,10 +40,10 @@ shape_of-first-then-next-first c = c.loop-i.invariant.1
 
 pub returns-then-next-first : goal.returns-then-next-first
 returns-then-next-first c = record {
-      says = says-no (next-wrong c.requires.listed.among (near (goal.at.returns-then-next-first c).After-wide-g) c.loop-i-test.true c.args.chains.now c.loop-i.first c.loop-i.invariant.2
+  says = says-no (next-wrong c.requires.listed.among (near (goal.at.returns-then-next-first c).After-wide-g) c.loop-i-test.true c.args.chains.now c.loop-i.first c.loop-i.invariant.2
       (λ q. c.if-next-first.true (c.next.ensures ∙ q ∙ sym c.first.ensures)));
-      firsts = λ e. absurd (true-not-false e);
-    }
+  firsts = λ e. absurd (true-not-false e);
+}
 
 pub overflow_add-i : goal.overflow_add-i
 overflow_add-i c = omega (arith, c.requires.listed.room, c.requires.listed.entries, c.loop-i.invariant.0)

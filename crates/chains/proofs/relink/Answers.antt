@@ -30,9 +30,9 @@ overflow_sub-i c = omega arith
 
 pub region-requires : goal.region-requires
 region-requires c = record {
-      entries_in_bounds = c.requires.listed.long;
-      i_lt_entries = omega (arith, c.requires.listed.room, c.loop-i.invariant.0);
-    }
+  entries_in_bounds = c.requires.listed.long;
+  i_lt_entries = omega (arith, c.requires.listed.room, c.loop-i.invariant.0);
+}
 
 pub first-next-requires : goal.first-next-requires
 first-next-requires c = let r = near (goal.at.first-next-requires c).After-wide-g in (r.low, omega (arith, r.high, c.loop-i.invariant.1, c.loop-i.invariant.2))

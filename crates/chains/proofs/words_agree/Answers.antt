@@ -10,10 +10,10 @@ used-requires c = omega (arith, c.requires.listed.long)
 
 pub nexts_agree-requires : goal.nexts_agree-requires
 nexts_agree-requires c = record {
-      listed = c.requires.listed;
-      entries_in_bounds = c.requires.entries_in_bounds;
-      last_in_bounds = (c.requires.listed.few, λ r l. zeros 129 r);
-    }
+  listed = c.requires.listed;
+  entries_in_bounds = c.requires.entries_in_bounds;
+  last_in_bounds = (c.requires.listed.few, λ r l. zeros 129 r);
+}
 
 pub returns-then-not-nexts_agree : goal.returns-then-not-nexts_agree
 returns-then-not-nexts_agree c =

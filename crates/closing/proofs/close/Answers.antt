@@ -5,9 +5,9 @@ use Rattle.closing.proofs.close.Goals as goal
 
 pub feed-fed-requires : goal.feed-fed-requires
 feed-fed-requires c = record {
-      room = (record { piece = omega arith; text-room = omega (arith, c.requires.in_bounds.0) }, omega (arith, c.requires.in_bounds.1));
-      placed = c.requires.placed;
-    }
+  room = (record { piece = omega arith; text-room = omega (arith, c.requires.in_bounds.0) }, omega (arith, c.requires.in_bounds.1));
+  placed = c.requires.placed;
+}
 
 pub put_end-requires : goal.put_end-requires
 put_end-requires c =
@@ -26,6 +26,6 @@ returns-then-is_begun c =
 
 pub returns-else-is_begun : goal.returns-else-is_begun
 returns-else-is_begun c = record {
-      closes = λ m a. closed-idle a (sym c.is_begun.ensures ∙ c.if-is_begun.false) (c.put_end-else-is_begun.ensures.put m _ _ a);
-      upper_bound = omega (arith, c.put_end-else-is_begun.ensures.upper_bound);
-    }
+  closes = λ m a. closed-idle a (sym c.is_begun.ensures ∙ c.if-is_begun.false) (c.put_end-else-is_begun.ensures.put m _ _ a);
+  upper_bound = omega (arith, c.put_end-else-is_begun.ensures.upper_bound);
+}

@@ -19,13 +19,13 @@ collect_marked-requires c =
 
 pub rebuild-requires : goal.rebuild-requires
 rebuild-requires c = record {
-      chainable = collected-chainable c.requires.whole_for (c.collect_marked.ensures.by_index_2 _ _ (kept (goal.at.rebuild-requires c).After-mark_kept));
-      p_in_bounds = c.requires.p_in_bounds;
-    }
+  chainable = collected-chainable c.requires.whole_for (c.collect_marked.ensures.by_index_2 _ _ (kept (goal.at.rebuild-requires c).After-mark_kept));
+  p_in_bounds = c.requires.p_in_bounds;
+}
 
 pub returns : goal.returns
 returns c = record {
-      by_index = λ t th. did-answer c.done.ensures (c.collect_marked.ensures.by_index_2 _ _ (kept (goal.at.returns c).After-mark_kept) t th);
-      chains_after = c.rebuild.ensures;
-      noted_2 = c.collect_marked.ensures.noted_2;
-    }
+  by_index = λ t th. did-answer c.done.ensures (c.collect_marked.ensures.by_index_2 _ _ (kept (goal.at.returns c).After-mark_kept) t th);
+  chains_after = c.rebuild.ensures;
+  noted_2 = c.collect_marked.ensures.noted_2;
+}

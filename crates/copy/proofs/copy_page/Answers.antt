@@ -79,17 +79,17 @@ loop-k-preserved c =
     let h : Q c.if-work-region.next c.if-work-region.cells c.if-work-region.tables × (length c.if-work-region.notes ≡ length n) × Noted a.p c.if-work-region.tables c.if-work-region.notes =
     elim c.if-work-region.branch [
       | then-work-region w ↦ (
-          subst (λ (n : ℕ). Q n c.if-work-region.cells c.if-work-region.tables) (sym w.next-is)
-              (subst₂ (Q w.next_page-next.result) (sym w.cells-is) (sym w.tables-is) (page_moved c.requires.passing c.requires.page_lt_pages i x e f refl l.invariant.4 w.move_cell.ensures)),
-          ap length w.notes-is ∙ w.next_page-next.auto.notes ∙ l.invariant.5,
-          subst₂ (Noted a.p) (sym w.tables-is) (sym w.notes-is) (noted-kept (step-none-freed w.move_cell.ensures) w.next_page-next.ensures.noted_2),
-        )
+        subst (λ (n : ℕ). Q n c.if-work-region.cells c.if-work-region.tables) (sym w.next-is)
+            (subst₂ (Q w.next_page-next.result) (sym w.cells-is) (sym w.tables-is) (page_moved c.requires.passing c.requires.page_lt_pages i x e f refl l.invariant.4 w.move_cell.ensures)),
+        ap length w.notes-is ∙ w.next_page-next.auto.notes ∙ l.invariant.5,
+        subst₂ (Noted a.p) (sym w.tables-is) (sym w.notes-is) (noted-kept (step-none-freed w.move_cell.ensures) w.next_page-next.ensures.noted_2),
+      )
       | else-work-region w ↦ (
-          subst (λ (n : ℕ). Q n c.if-work-region.cells c.if-work-region.tables) (sym w.next-is)
-              (subst₂ (Q l.next) (sym w.cells-is) (sym w.tables-is) (page-left c.requires.passing c.requires.page_lt_pages i x e f refl l.invariant.4 (λ z. w.if-work-region.false (c.work.ensures ∙ z)))),
-          ap length w.notes-is ∙ l.invariant.5,
-          subst₂ (Noted a.p) (sym w.tables-is) (sym w.notes-is) l.invariant.6,
-        )
+        subst (λ (n : ℕ). Q n c.if-work-region.cells c.if-work-region.tables) (sym w.next-is)
+            (subst₂ (Q l.next) (sym w.cells-is) (sym w.tables-is) (page-left c.requires.passing c.requires.page_lt_pages i x e f refl l.invariant.4 (λ z. w.if-work-region.false (c.work.ensures ∙ z)))),
+        ap length w.notes-is ∙ l.invariant.5,
+        subst₂ (Noted a.p) (sym w.tables-is) (sym w.notes-is) l.invariant.6,
+      )
     ] in (
       l.invariant.0,
       moves-cells h.0.moves,
@@ -111,6 +111,6 @@ shape_of-notes c = c.loop-k.invariant.5
 
 pub returns : goal.returns
 returns c = record {
-      page_pass = page-pass (walk_end c.loop-k.invariant.3 (omega (arith, c.loop-k.invariant.0, c.loop-k-test.false))) c.loop-k.invariant.4;
-      noted_2 = c.loop-k.invariant.6;
-    }
+  page_pass = page-pass (walk_end c.loop-k.invariant.3 (omega (arith, c.loop-k.invariant.0, c.loop-k-test.false))) c.loop-k.invariant.4;
+  noted_2 = c.loop-k.invariant.6;
+}

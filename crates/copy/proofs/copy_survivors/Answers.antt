@@ -59,17 +59,17 @@ loop-level-preserved c =
     let h : C c.if-come-wide-ne0.cells c.if-come-wide-ne0.tables × (length c.if-come-wide-ne0.notes ≡ length a.notes.now) × Noted a.p c.if-come-wide-ne0.tables c.if-come-wide-ne0.notes =
     elim c.if-come-wide-ne0.branch [
       | then-come-wide-ne0 w ↦ (
-          subst₂ C (sym w.cells-is) (sym w.tables-is) (copy-next c.requires.plan t l.invariant.3 (subst (λ (x : ℕ). P x w.copy_pass.new.cells w.copy_pass.new.tables) c.region_at-region.ensures w.copy_pass.ensures.pass)),
-          ap length w.notes-is ∙ w.copy_pass.auto.notes ∙ l.invariant.4,
-          subst₂ (Noted a.p) (sym w.tables-is) (sym w.notes-is) w.copy_pass.ensures.noted_2,
-        )
+        subst₂ C (sym w.cells-is) (sym w.tables-is) (copy-next c.requires.plan t l.invariant.3 (subst (λ (x : ℕ). P x w.copy_pass.new.cells w.copy_pass.new.tables) c.region_at-region.ensures w.copy_pass.ensures.pass)),
+        ap length w.notes-is ∙ w.copy_pass.auto.notes ∙ l.invariant.4,
+        subst₂ (Noted a.p) (sym w.tables-is) (sym w.notes-is) w.copy_pass.ensures.noted_2,
+      )
       | else-come-wide-ne0 w ↦ (
-          subst₂ C (sym w.cells-is) (sym w.tables-is)
-              (let b = region-bounds a.p a.thread l.level c.requires.thread_lt_threads.0 (omega (arith, c.requires.thread_lt_threads.1, t)) in
-              copy-skip c.requires.plan t l.invariant.3 (c.requires.by_index_2 g b.0 b.1 (ap (λ (x : ℕ). get_or a.come.now x 0) (sym e) ∙ w.if-come-wide-ne0.false))),
-          ap length w.notes-is ∙ l.invariant.4,
-          subst₂ (Noted a.p) (sym w.tables-is) (sym w.notes-is) l.invariant.5,
-        )
+        subst₂ C (sym w.cells-is) (sym w.tables-is)
+            (let b = region-bounds a.p a.thread l.level c.requires.thread_lt_threads.0 (omega (arith, c.requires.thread_lt_threads.1, t)) in
+            copy-skip c.requires.plan t l.invariant.3 (c.requires.by_index_2 g b.0 b.1 (ap (λ (x : ℕ). get_or a.come.now x 0) (sym e) ∙ w.if-come-wide-ne0.false))),
+        ap length w.notes-is ∙ l.invariant.4,
+        subst₂ (Noted a.p) (sym w.tables-is) (sym w.notes-is) l.invariant.5,
+      )
     ] in
     (omega (arith, t), moves-cells h.0.moves, moves-tables h.0.moves, h.0, h.1, h.2)
 

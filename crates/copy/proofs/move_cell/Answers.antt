@@ -32,9 +32,9 @@ copy_cell-requires c =
 
 pub mark-requires : goal.mark-requires
 mark-requires c = record {
-      room = search rules;
-      page_lt_pages = omega (arith, c.page_of-home.ensures, begins-page _ _ _ _ c.requires.used);
-    }
+  room = search rules;
+  page_lt_pages = omega (arith, c.page_of-home.ensures, begins-page _ _ _ _ c.requires.used);
+}
 
 pub without_bit-others-requires : goal.without_bit-others-requires
 without_bit-others-requires c =
@@ -55,9 +55,9 @@ with_bit-marks-requires c =
 
 pub set_mark-requires : goal.set_mark-requires
 set_mark-requires c = record {
-      room = search rules;
-      page_lt_pages = omega (arith, c.page_of-home.ensures, begins-page _ _ _ _ c.requires.used);
-    }
+  room = search rules;
+  page_lt_pages = omega (arith, c.page_of-home.ensures, begins-page _ _ _ _ c.requires.used);
+}
 
 pub returns : goal.returns
 returns c =

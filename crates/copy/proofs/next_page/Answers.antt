@@ -20,6 +20,6 @@ page_for-requires c =
 
 pub returns : goal.returns
 returns c = record {
-      next = found-next c.requires.seeking.regular c.requires.seeking.usable c.page_for.ensures.found;
-      noted_2 = c.page_for.ensures.noted_2;
-    }
+  next = found-next c.requires.seeking.regular c.requires.seeking.usable c.page_for.ensures.found;
+  noted_2 = c.page_for.ensures.noted_2;
+}

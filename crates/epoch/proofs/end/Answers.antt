@@ -65,10 +65,10 @@ region_at-region-requires c =
 
 pub mark_survivors-requires : goal.mark_survivors-requires
 mark_survivors-requires c = record {
-      whole_for = c.requires.whole_for;
-      chains_whole = c.requires.chains_whole;
-      thread_lt_threads = (c.requires.thread_lt_threads, c.wide-level.ensures ∙ c.depth.ensures, omega (arith, c.if-level-eq0.false), c.region_at-region.ensures);
-    }
+  whole_for = c.requires.whole_for;
+  chains_whole = c.requires.chains_whole;
+  thread_lt_threads = (c.requires.thread_lt_threads, c.wide-level.ensures ∙ c.depth.ensures, omega (arith, c.if-level-eq0.false), c.region_at-region.ensures);
+}
 
 pub end_marked-requires : goal.end_marked-requires
 end_marked-requires c =

@@ -65,12 +65,12 @@ unmark-requires c =
 
 pub returns-then-q-ne0 : goal.returns-then-q-ne0
 returns-then-q-ne0 c = record {
-      by_index_2 = λ cells tables m.
+  by_index_2 = λ cells tables m.
       did-answer c.refused.ensures
       (out-refused m c.ask_room-q.result (omega (arith, c.if-q-ne0.true)) c.ask_room-q.ensures c.unmark.ensures);
-      noted_2 = out-noted c.requires.by_index.2 c.unmark.ensures c.requires.noted;
-      chains_after = chains-same c.requires.chains_whole;
-    }
+  noted_2 = out-noted c.requires.by_index.2 c.unmark.ensures c.requires.noted;
+  chains_after = chains-same c.requires.chains_whole;
+}
 
 pub evacuate-requires : goal.evacuate-requires
 evacuate-requires c =
@@ -87,9 +87,9 @@ evacuate-requires c =
 
 pub returns : goal.returns
 returns c = record {
-      by_index_2 = λ cells tables m.
+  by_index_2 = λ cells tables m.
       let a = accepted m (sym (let z : c.ask_room-q.result ≡ 0 = omega (arith, c.if-q-ne0.false) in z) ∙ c.ask_room-q.ensures) in
       did-answer c.done.ensures (ended_here m a (c.evacuate.ensures.by_index_3 cells tables m a));
-      noted_2 = c.evacuate.ensures.noted_2;
-      chains_after = c.evacuate.ensures.chains_after;
-    }
+  noted_2 = c.evacuate.ensures.noted_2;
+  chains_after = c.evacuate.ensures.chains_after;
+}

@@ -102,7 +102,7 @@ shape_of-notes c = c.release.auto.notes ∙ c.copy_survivors.auto.notes
 
 pub returns : goal.returns
 returns c = record {
-      by_index_3 = λ cells tables e a.
+  by_index_3 = λ cells tables e a.
       let args = c.args in
       let settle = c.settle in
       let release = c.release in
@@ -112,6 +112,6 @@ returns c = record {
       st.has_ended e p k c.rewrite_variables.ensures release.ensures.ended
       (omega (arith, c.count.ensures, ap (count_of args.p args.tables.now) c.wide.ensures, c.count_survivors-survivors.ensures, st.freed-rest e)) release.ensures.emptied
       (rewritten-both h (st.held e) c.rewrite_slots.ensures settle.ensures.rewritten) settle.ensures.updated;
-      noted_2 = c.release.ensures.noted_2;
-      chains_after = c.settle.ensures.chains_after;
-    }
+  noted_2 = c.release.ensures.noted_2;
+  chains_after = c.settle.ensures.chains_after;
+}

@@ -17,12 +17,12 @@ count-objects-requires c =
 
 pub list_and_free-requires : goal.list_and_free-requires
 list_and_free-requires c = record {
-      by_index = c.requires.by_index;
-      by_index_2 = c.requires.by_index_2;
-      noted = c.requires.noted;
-      chains_whole = c.requires.chains_whole;
-      objects_value = (c.count-objects.ensures ∙ ap (count_of c.args.p c.args.tables.now) c.wide.ensures);
-    }
+  by_index = c.requires.by_index;
+  by_index_2 = c.requires.by_index_2;
+  noted = c.requires.noted;
+  chains_whole = c.requires.chains_whole;
+  objects_value = (c.count-objects.ensures ∙ ap (count_of c.args.p c.args.tables.now) c.wide.ensures);
+}
 
 pub free_listed-requires : goal.free_listed-requires
 free_listed-requires c =

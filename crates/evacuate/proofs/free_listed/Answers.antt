@@ -32,11 +32,11 @@ release-requires c =
 
 pub returns : goal.returns
 returns c = record {
-      by_index_3 = λ cells tables e a.
+  by_index_3 = λ cells tables e a.
       let off = c.requires.by_index_2 in
       let p = plan e a.pages in
       let release = c.release in
       st.has_ended e p (none-copied e off) (none-variables e off) release.ensures.ended (c.requires.objects_value ∙ all-freed e off) release.ensures.emptied (none-rewritten e off p) c.keep_entries.ensures.updated;
-      noted_2 = c.release.ensures.noted_2;
-      chains_after = c.keep_entries.ensures.chains_after;
-    }
+  noted_2 = c.release.ensures.noted_2;
+  chains_after = c.keep_entries.ensures.chains_after;
+}

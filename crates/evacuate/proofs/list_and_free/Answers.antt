@@ -17,10 +17,10 @@ list_pages-n-requires c =
 
 pub free_listed-requires : goal.free_listed-requires
 free_listed-requires c = record {
-      by_index = c.requires.by_index;
-      by_index_2 = c.requires.by_index_2;
-      noted = c.requires.noted;
-      chains_whole = c.requires.chains_whole;
-      lists = c.list_pages-n.ensures;
-      objects_value = c.requires.objects_value;
-    }
+  by_index = c.requires.by_index;
+  by_index_2 = c.requires.by_index_2;
+  noted = c.requires.noted;
+  chains_whole = c.requires.chains_whole;
+  lists = c.list_pages-n.ensures;
+  objects_value = c.requires.objects_value;
+}

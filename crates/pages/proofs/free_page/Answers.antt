@@ -8,6 +8,6 @@ overflow_cast-notes c = omega (arith, above_within _ _ _ c.pages_above.ensures, 
 
 pub returns : goal.returns
 returns c = record {
-      free = noted-free c.requires.noted (omega (arith, c.smaller-passed.ensures, c.wide.ensures)) c.free_below-page.ensures;
-      noted_2 = noted-found c.requires.noted (omega (arith, c.smaller-passed.ensures, c.wide.ensures)) c.free_below-page.ensures c.pages_above.ensures;
-    }
+  free = noted-free c.requires.noted (omega (arith, c.smaller-passed.ensures, c.wide.ensures)) c.free_below-page.ensures;
+  noted_2 = noted-found c.requires.noted (omega (arith, c.smaller-passed.ensures, c.wide.ensures)) c.free_below-page.ensures c.pages_above.ensures;
+}

@@ -16,9 +16,9 @@ overflow_sub-page c = omega (arith, listing-pos c.loop-left.invariant.0 (omega (
 
 pub owner-requires : goal.owner-requires
 owner-requires c = record {
-      room = c.requires.room;
-      page_lt_pages = omega (arith, listing-pos c.loop-left.invariant.0 (omega (arith, c.loop-left-test.true)), c.loop-left.invariant.0.within);
-    }
+  room = c.requires.room;
+  page_lt_pages = omega (arith, listing-pos c.loop-left.invariant.0 (omega (arith, c.loop-left-test.true)), c.loop-left.invariant.0.within);
+}
 
 pub overflow_sub-left : goal.overflow_sub-left
 overflow_sub-left c = omega (arith, c.loop-left-test.true)

@@ -19,6 +19,6 @@ bounds-notes-number-2 c = omega (arith, c.search_page-page.auto.notes, c.require
 
 pub returns : goal.returns
 returns c = record {
-      found = c.search_page-page.ensures.found;
-      noted_2 = noted-region c.wide-number.result c.search_page-page.result (omega (arith, c.wide-number.ensures, c.requires.le_region.0)) c.search_page-page.ensures.noted_2;
-    }
+  found = c.search_page-page.ensures.found;
+  noted_2 = noted-region c.wide-number.result c.search_page-page.result (omega (arith, c.wide-number.ensures, c.requires.le_region.0)) c.search_page-page.ensures.noted_2;
+}

@@ -19,9 +19,9 @@ bounds-list-i c = omega (arith, c.requires.lists.rises.few, c.loop-i-test.true)
 
 pub used-requires : goal.used-requires
 used-requires c = record {
-      room = c.requires.room;
-      page_lt_pages = omega (arith, c.requires.lists.rises.low c.loop-i.i c.loop-i-test.true, c.wide-page.ensures);
-    }
+  room = c.requires.room;
+  page_lt_pages = omega (arith, c.requires.lists.rises.low c.loop-i.i c.loop-i-test.true, c.wide-page.ensures);
+}
 
 pub clear_cells-requires : goal.clear_cells-requires
 clear_cells-requires c =

@@ -9,11 +9,11 @@ use Rattle.release.proofs.release.Goals as goal
 
 pub clear_pages-requires : goal.clear_pages-requires
 clear_pages-requires c = record {
-      room = c.requires.room;
-      regular = c.requires.regular;
-      p_in_bounds = c.requires.p_in_bounds;
-      lists = c.requires.lists;
-    }
+  room = c.requires.room;
+  regular = c.requires.regular;
+  p_in_bounds = c.requires.p_in_bounds;
+  lists = c.requires.lists;
+}
 
 pub release_pages-requires : goal.release_pages-requires
 release_pages-requires c = record { room = c.requires.room; lists = c.requires.lists }
@@ -30,9 +30,9 @@ set_count-requires c =
 
 pub depth-depth-requires : goal.depth-depth-requires
 depth-depth-requires c = record {
-      room = room-same (c.set_count.auto.tables ∙ c.release_pages.auto.tables) c.requires.room;
-      k_lt_threads = c.requires.thread_lt_threads.0;
-    }
+  room = room-same (c.set_count.auto.tables ∙ c.release_pages.auto.tables) c.requires.room;
+  k_lt_threads = c.requires.thread_lt_threads.0;
+}
 
 pub overflow_sub-depth : goal.overflow_sub-depth
 overflow_sub-depth c =
@@ -41,9 +41,9 @@ overflow_sub-depth c =
 
 pub set_depth-requires : goal.set_depth-requires
 set_depth-requires c = record {
-      room = room-same (c.set_count.auto.tables ∙ c.release_pages.auto.tables) c.requires.room;
-      k_lt_threads = c.requires.thread_lt_threads.0;
-    }
+  room = room-same (c.set_count.auto.tables ∙ c.release_pages.auto.tables) c.requires.room;
+  k_lt_threads = c.requires.thread_lt_threads.0;
+}
 
 pub count_freed-requires : goal.count_freed-requires
 count_freed-requires c =

@@ -18,21 +18,21 @@ bounds-list-i c = omega (arith, c.requires.lists.rises.few, c.loop-i-test.true)
 
 pub set_owner-requires : goal.set_owner-requires
 set_owner-requires c = record {
-      room = room-same c.loop-i.invariant.1 c.requires.room;
-      page_lt_pages = omega (arith, c.requires.lists.rises.low c.loop-i.i c.loop-i-test.true, c.wide-page.ensures);
-    }
+  room = room-same c.loop-i.invariant.1 c.requires.room;
+  page_lt_pages = omega (arith, c.requires.lists.rises.low c.loop-i.i c.loop-i-test.true, c.wide-page.ensures);
+}
 
 pub set_used-requires : goal.set_used-requires
 set_used-requires c = record {
-      room = room-same (c.set_owner.auto.tables ∙ c.loop-i.invariant.1) c.requires.room;
-      page_lt_pages = omega (arith, c.requires.lists.rises.low c.loop-i.i c.loop-i-test.true, c.wide-page.ensures);
-    }
+  room = room-same (c.set_owner.auto.tables ∙ c.loop-i.invariant.1) c.requires.room;
+  page_lt_pages = omega (arith, c.requires.lists.rises.low c.loop-i.i c.loop-i-test.true, c.wide-page.ensures);
+}
 
 pub set_mark-requires : goal.set_mark-requires
 set_mark-requires c = record {
-      room = room-same (c.set_used.auto.tables ∙ c.set_owner.auto.tables ∙ c.loop-i.invariant.1) c.requires.room;
-      page_lt_pages = omega (arith, c.requires.lists.rises.low c.loop-i.i c.loop-i-test.true, c.wide-page.ensures);
-    }
+  room = room-same (c.set_used.auto.tables ∙ c.set_owner.auto.tables ∙ c.loop-i.invariant.1) c.requires.room;
+  page_lt_pages = omega (arith, c.requires.lists.rises.low c.loop-i.i c.loop-i-test.true, c.wide-page.ensures);
+}
 
 pub overflow_add-i : goal.overflow_add-i
 overflow_add-i c = omega (arith, c.loop-i-test.true)

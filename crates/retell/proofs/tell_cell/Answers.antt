@@ -55,9 +55,9 @@ overflow_cast-field_at c =
 
 pub put_entry-requires : goal.put_entry-requires
 put_entry-requires c = record {
-      entries_in_bounds = omega (arith, c.requires.slots_telling.telling.long, c.loop-f.invariant.4);
-      i_lt_entries = roomy (goal.at.put_entry-requires c).After-cross-to (λ z. omega (arith, c.if-to-ne0.true));
-    }
+  entries_in_bounds = omega (arith, c.requires.slots_telling.telling.long, c.loop-f.invariant.4);
+  i_lt_entries = roomy (goal.at.put_entry-requires c).After-cross-to (λ z. omega (arith, c.if-to-ne0.true));
+}
 
 pub overflow_add-i : goal.overflow_add-i
 overflow_add-i c = omega (arith, roomy (goal.at.overflow_add-i c).After-cross-to (λ z. omega (arith, c.if-to-ne0.true)), c.requires.slots_telling.readable.tables-long.entries-high)
@@ -77,9 +77,9 @@ loop-f-preserved c =
     let h : P c.if-to-ne0.remember c.if-to-ne0.i =
     elim c.if-to-ne0.branch [
       | then-to-ne0 z ↦ subst₂ P (sym (z.remember-is ∙ z.put_entry.ensures)) (sym z.i-is)
-    (entry-told a.cell c.requires.slots_telling l.invariant.5 c.requires.begins lt c.field.result _ c.cross-to.result c.field.ensures l.invariant.3 c.cross-to.ensures z.field_at.result z.field_at.ensures (λ y. omega (arith, z.if-to-ne0.true)))
+          (entry-told a.cell c.requires.slots_telling l.invariant.5 c.requires.begins lt c.field.result _ c.cross-to.result c.field.ensures l.invariant.3 c.cross-to.ensures z.field_at.result z.field_at.ensures (λ y. omega (arith, z.if-to-ne0.true)))
       | else-to-ne0 z ↦ subst₂ P (sym z.remember-is) (sym z.i-is)
-    (entry-none a.cell c.requires.slots_telling l.invariant.5 c.requires.begins lt c.field.result _ c.cross-to.result c.field.ensures l.invariant.3 c.cross-to.ensures (omega (arith, z.if-to-ne0.false)))
+          (entry-none a.cell c.requires.slots_telling l.invariant.5 c.requires.begins lt c.field.result _ c.cross-to.result c.field.ensures l.invariant.3 c.cross-to.ensures (omega (arith, z.if-to-ne0.false)))
     ] in
     (omega (arith, c.loop-f-test.true), l.invariant.1, l.invariant.2, l.invariant.3, h.added.size, h)
 

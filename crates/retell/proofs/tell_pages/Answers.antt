@@ -13,9 +13,9 @@ loop-page-init c =
 
 pub tell_page-i-requires : goal.tell_page-i-requires
 tell_page-i-requires c = record {
-      page_lt_pages = c.loop-page-test.true;
-      slots_telling = slots-rest c.requires c.loop-page.invariant.2 (omega arith) (omega arith) (omega (arith, c.loop-page-test.true));
-    }
+  page_lt_pages = c.loop-page-test.true;
+  slots_telling = slots-rest c.requires c.loop-page.invariant.2 (omega arith) (omega arith) (omega (arith, c.loop-page-test.true));
+}
 
 pub overflow_add-page : goal.overflow_add-page
 overflow_add-page c = omega (arith, c.requires.readable.tables-long.few, c.loop-page-test.true)

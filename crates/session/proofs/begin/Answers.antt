@@ -5,24 +5,24 @@ use Rattle.session.proofs.begin.Goals as goal
 
 pub obey-requires : goal.obey-requires
 obey-requires c = record {
-      room = (c.requires.room, omega (arith, c.requires.room.piece));
-      here = begun-here c.prepare.ensures c.if-prepare.true;
-    }
+  room = (c.requires.room, omega (arith, c.requires.room.piece));
+  here = begun-here c.prepare.ensures c.if-prepare.true;
+}
 
 pub returns-in-Open : goal.returns-in-Open
 returns-in-Open c = record {
-      feeds = opened-none _ _ c.read_line-scan.ensures c.in-Open.is c.requires.lent;
-      length_bound = omega arith;
-    }
+  feeds = opened-none _ _ c.read_line-scan.ensures c.in-Open.is c.requires.lent;
+  length_bound = omega arith;
+}
 
 pub returns-then-prepare : goal.returns-then-prepare
 returns-then-prepare c = record {
-      feeds = opened-on _ _ c.read_line-scan.ensures c.in-Found.is c.prepare.ensures c.if-prepare.true c.start.ensures c.obey.ensures.feeds;
-      length_bound = c.obey.ensures.length_bound;
-    }
+  feeds = opened-on _ _ c.read_line-scan.ensures c.in-Found.is c.prepare.ensures c.if-prepare.true c.start.ensures c.obey.ensures.feeds;
+  length_bound = c.obey.ensures.length_bound;
+}
 
 pub returns-else-prepare : goal.returns-else-prepare
 returns-else-prepare c = record {
-      feeds = opened-refused _ _ c.read_line-scan.ensures c.in-Found.is c.prepare.ensures c.if-prepare.false c.put_sizes.ensures;
-      length_bound = omega (arith, c.put_sizes.ensures.end_is);
-    }
+  feeds = opened-refused _ _ c.read_line-scan.ensures c.in-Found.is c.prepare.ensures c.if-prepare.false c.put_sizes.ensures;
+  length_bound = omega (arith, c.put_sizes.ensures.end_is);
+}

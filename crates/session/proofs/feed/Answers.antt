@@ -6,15 +6,15 @@ use Rattle.session.proofs.feed.Goals as goal
 
 pub obey-requires : goal.obey-requires
 obey-requires c = record {
-      room = (c.requires.room.0, line_low _ _ c.in-Running.is c.requires.room.1);
-      here = placed-here c.requires.placed c.in-Running.is;
-    }
+  room = (c.requires.room.0, line_low _ _ c.in-Running.is c.requires.room.1);
+  here = placed-here c.requires.placed c.in-Running.is;
+}
 
 pub returns-in-Opening : goal.returns-in-Opening
 returns-in-Opening c = record {
-      feeds = fed-opening c.in-Opening.is c.begin.ensures.feeds;
-      length_bound = c.begin.ensures.length_bound;
-    }
+  feeds = fed-opening c.in-Opening.is c.begin.ensures.feeds;
+  length_bound = c.begin.ensures.length_bound;
+}
 
 pub returns-in-Running : goal.returns-in-Running
 returns-in-Running c = record { feeds = fed-running c.in-Running.is c.obey.ensures.feeds; length_bound = c.obey.ensures.length_bound }

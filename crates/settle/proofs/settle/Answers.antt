@@ -24,10 +24,10 @@ used-requires c = omega (arith, c.requires.settles.entries.long)
 
 pub first_own-own-requires : goal.first_own-own-requires
 first_own-own-requires c = record {
-      table = settles-table c.requires.settles;
-      rises = c.requires.lists.rises;
-      entries_bound = (c.requires.settles.wiring.tables-long.entries-high, c.requires.settles.wiring.tables-long.few);
-    }
+  table = settles-table c.requires.settles;
+  rises = c.requires.lists.rises;
+  entries_bound = (c.requires.settles.wiring.tables-long.entries-high, c.requires.settles.wiring.tables-long.few);
+}
 
 pub first_touched-from-requires : goal.first_touched-from-requires
 first_touched-from-requires c =
@@ -36,19 +36,19 @@ first_touched-from-requires c =
 
 pub filter_entries-kept-requires : goal.filter_entries-kept-requires
 filter_entries-kept-requires c = record {
-      entries = (settles c.requires.settles (c.wide-used.ensures ∙ c.used.ensures)).entries;
-      room = c.requires.settles.wiring.tables-long;
-      from_le_used = omega (arith, c.wide-used.ensures, c.used.ensures, c.first_own-own.ensures.upper_bound, c.first_touched-from.ensures.upper_bound);
-      unchanged = passed c.requires.settles c.requires.chained c.requires.lists c.first_own-own.ensures.upper_bound c.first_own-own.ensures.not_own (omega (arith, c.first_touched-from.ensures.upper_bound)) c.first_touched-from.ensures.upper_bound_2 c.args.cells.now;
-    }
+  entries = (settles c.requires.settles (c.wide-used.ensures ∙ c.used.ensures)).entries;
+  room = c.requires.settles.wiring.tables-long;
+  from_le_used = omega (arith, c.wide-used.ensures, c.used.ensures, c.first_own-own.ensures.upper_bound, c.first_touched-from.ensures.upper_bound);
+  unchanged = passed c.requires.settles c.requires.chained c.requires.lists c.first_own-own.ensures.upper_bound c.first_own-own.ensures.not_own (omega (arith, c.first_touched-from.ensures.upper_bound)) c.first_touched-from.ensures.upper_bound_2 c.args.cells.now;
+}
 
 pub settle_copies-all-requires : goal.settle_copies-all-requires
 settle_copies-all-requires c = record {
-      wiring = c.requires.settles.wiring;
-      settling = settle-asks (settles c.requires.settles (c.wide-used.ensures ∙ c.used.ensures)) c.filter_entries-kept.ensures.added;
-      rises = c.requires.lists.rises;
-      by_index = c.requires.by_index;
-    }
+  wiring = c.requires.settles.wiring;
+  settling = settle-asks (settles c.requires.settles (c.wide-used.ensures ∙ c.used.ensures)) c.filter_entries-kept.ensures.added;
+  rises = c.requires.lists.rises;
+  by_index = c.requires.by_index;
+}
 
 pub close_entries-requires : goal.close_entries-requires
 close_entries-requires c =
@@ -59,16 +59,16 @@ close_entries-requires c =
 
 pub order_entries-requires : goal.order_entries-requires
 order_entries-requires c = record {
-      gathered = (settles-appended (settles c.requires.settles (c.wide-used.ensures ∙ c.used.ensures)) c.filter_entries-kept.ensures.added c.filter_entries-kept.ensures.rising c.settle_copies-all.ensures c.close_entries.ensures).gathered;
-      entries_bound = c.requires.settles.wiring.tables-long.entries-high;
-    }
+  gathered = (settles-appended (settles c.requires.settles (c.wide-used.ensures ∙ c.used.ensures)) c.filter_entries-kept.ensures.added c.filter_entries-kept.ensures.rising c.settle_copies-all.ensures c.close_entries.ensures).gathered;
+  entries_bound = c.requires.settles.wiring.tables-long.entries-high;
+}
 
 pub renew_chains-requires : goal.renew_chains-requires
 renew_chains-requires c = (c.args.remember.now, renew-ask c.requires.settles c.requires.chained c.requires.lists c.first_own-own.ensures.upper_bound c.first_own-own.ensures.not_own (omega (arith, c.first_touched-from.ensures.upper_bound)) c.first_touched-from.ensures.upper_bound_2 (c.wide-used.ensures ∙ c.used.ensures) (updated (goal.at.renew_chains-requires c).After-order_entries))
 
 pub returns : goal.returns
 returns c = record {
-      rewritten = c.settle_copies-all.ensures.rewritten;
-      updated = updated (goal.at.returns c).After-order_entries;
-      chains_after = c.renew_chains.ensures;
-    }
+  rewritten = c.settle_copies-all.ensures.rewritten;
+  updated = updated (goal.at.returns c).After-order_entries;
+  chains_after = c.renew_chains.ensures;
+}

@@ -70,9 +70,9 @@ overflow_cast-field_at c =
 
 pub put_entry-requires : goal.put_entry-requires
 put_entry-requires c = record {
-      entries_in_bounds = omega (arith, c.requires.settling.long, c.loop-f.invariant.4);
-      i_lt_entries = roomy (goal.at.put_entry-requires c).Then-to-ne0;
-    }
+  entries_in_bounds = omega (arith, c.requires.settling.long, c.loop-f.invariant.4);
+  i_lt_entries = roomy (goal.at.put_entry-requires c).Then-to-ne0;
+}
 
 pub overflow_add-i : goal.overflow_add-i
 overflow_add-i c = omega (arith, roomy (goal.at.overflow_add-i c).Then-to-ne0, c.requires.room.entries-high)
@@ -94,9 +94,9 @@ loop-f-preserved c =
     let h : P c.set_field.new.cells c.if-to-ne0.remember c.if-to-ne0.i =
     elim c.if-to-ne0.branch [
       | then-to-ne0 z ↦ subst₃ P (sym c.set_field.ensures) (sym (z.remember-is ∙ z.put_entry.ensures)) (sym z.i-is)
-    (field-comes c.requires.fields c.requires.settling lt l.invariant.5 c.forward_ref-x.result _ v.result ev l.invariant.2 v.ensures z.field_at.result z.field_at.ensures (λ y. omega (arith, z.if-to-ne0.true)))
+          (field-comes c.requires.fields c.requires.settling lt l.invariant.5 c.forward_ref-x.result _ v.result ev l.invariant.2 v.ensures z.field_at.result z.field_at.ensures (λ y. omega (arith, z.if-to-ne0.true)))
       | else-to-ne0 z ↦ subst₃ P (sym c.set_field.ensures) (sym z.remember-is) (sym z.i-is)
-    (field-stays c.requires.fields c.requires.settling lt l.invariant.5 c.forward_ref-x.result _ v.result ev l.invariant.2 v.ensures (omega (arith, z.if-to-ne0.false)))
+          (field-stays c.requires.fields c.requires.settling lt l.invariant.5 c.forward_ref-x.result _ v.result ev l.invariant.2 v.ensures (omega (arith, z.if-to-ne0.false)))
     ] in
     (omega (arith, c.loop-f-test.true), l.invariant.1, l.invariant.2, h.rewritten.size, h.added.size, h)
 

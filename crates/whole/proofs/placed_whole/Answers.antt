@@ -36,11 +36,11 @@ used-requires c = entries-there c.requires.sized
 
 pub cells_whole-requires : goal.cells_whole-requires
 cells_whole-requires c = record {
-      room = c.requires.room;
-      p_in_bounds = c.requires.sized.cells;
-      pages_checked = (c.regions_whole.ensures.0 c.if-not-regions_whole.false).pages;
-      entries_bound = omega (arith, c.wide-used.ensures, c.used.ensures, c.type_inv.remember 1);
-    }
+  room = c.requires.room;
+  p_in_bounds = c.requires.sized.cells;
+  pages_checked = (c.regions_whole.ensures.0 c.if-not-regions_whole.false).pages;
+  entries_bound = omega (arith, c.wide-used.ensures, c.used.ensures, c.type_inv.remember 1);
+}
 
 pub returns-then-not-cells_whole : goal.returns-then-not-cells_whole
 returns-then-not-cells_whole c =
@@ -55,10 +55,10 @@ returns-then-not-unused_whole c = says-no (λ h. said-no _ c.unused_whole.ensure
 
 pub entries_whole-requires : goal.entries_whole-requires
 entries_whole-requires c = record {
-      room = c.requires.room;
-      p_in_bounds = c.requires.sized.cells;
-      p_in_bounds_2 = c.requires.sized.remember;
-    }
+  room = c.requires.room;
+  p_in_bounds = c.requires.sized.cells;
+  p_in_bounds_2 = c.requires.sized.remember;
+}
 
 pub returns-then-not-entries_whole : goal.returns-then-not-entries_whole
 returns-then-not-entries_whole c = says-no (λ h. said-no _ c.entries_whole.ensures c.if-not-entries_whole.true h.remember.entries)

@@ -17,10 +17,10 @@ sums c =
 
 pub own_entries-own-requires : goal.own_entries-own-requires
 own_entries-own-requires c = record {
-      table = holding-table c.requires.holding;
-      entries_bound = (c.requires.shaped.room.entries-high, c.requires.shaped.room.few);
-      rises = c.requires.lists.rises;
-    }
+  table = holding-table c.requires.holding;
+  entries_bound = (c.requires.shaped.room.entries-high, c.requires.shaped.room.few);
+  rises = c.requires.lists.rises;
+}
 
 pub overflow_sub-result : goal.overflow_sub-result
 overflow_sub-result c = omega (arith, sums (goal.at.overflow_sub-result c).After-own_entries-own)

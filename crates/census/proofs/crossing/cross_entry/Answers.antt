@@ -9,15 +9,15 @@ use Rattle.census.proofs.crossing.cross_entry.Goals as goal
 
 pub slot-requires : goal.slot-requires
 slot-requires c = record {
-      entries_in_bounds = c.requires.holding.long;
-      i_lt_entries = omega (arith, c.requires.holding.remember.entries.room, c.requires.i_bound);
-    }
+  entries_in_bounds = c.requires.holding.long;
+  i_lt_entries = omega (arith, c.requires.holding.remember.entries.room, c.requires.i_bound);
+}
 
 pub owner-home-requires : goal.owner-home-requires
 owner-home-requires c = record {
-      room = c.requires.shaped.room;
-      page_lt_pages = omega (arith, c.page_at.ensures, c.wide-at.ensures ∙ c.slot.ensures, slot-low c.requires.holding c.args.i c.requires.i_bound);
-    }
+  room = c.requires.shaped.room;
+  page_lt_pages = omega (arith, c.page_at.ensures, c.wide-at.ensures ∙ c.slot.ensures, slot-low c.requires.holding c.args.i c.requires.i_bound);
+}
 
 pub returns-then-home-r : goal.returns-then-home-r
 returns-then-home-r c =

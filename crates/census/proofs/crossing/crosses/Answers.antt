@@ -11,9 +11,9 @@ returns-then-x-eq0 c =
 
 pub home_after-h-requires : goal.home_after-h-requires
 home_after-h-requires c = record {
-      room = c.requires.room;
-      c_bound = (omega (arith, c.cell_named.ensures, begins-page _ _ _ _ (c.requires.fact (omega (arith, c.if-x-eq0.false)))), c.requires.p_in_bounds);
-    }
+  room = c.requires.room;
+  c_bound = (omega (arith, c.cell_named.ensures, begins-page _ _ _ _ (c.requires.fact (omega (arith, c.if-x-eq0.false)))), c.requires.p_in_bounds);
+}
 
 pub returns-then-other_region-eq0 : goal.returns-then-other_region-eq0
 returns-then-other_region-eq0 c =

@@ -38,10 +38,10 @@ overflow_sub-x c = omega (arith, c.loop-x-test.true)
 
 pub cross_entry-requires : goal.cross_entry-requires
 cross_entry-requires c = record {
-      shaped = c.requires.shaped;
-      holding = c.requires.holding;
-      i_bound = omega (arith, c.loop-x-test.true, c.loop-x.invariant.leads.low);
-    }
+  shaped = c.requires.shaped;
+  holding = c.requires.holding;
+  i_bound = omega (arith, c.loop-x-test.true, c.loop-x.invariant.leads.low);
+}
 
 pub overflow_sub-n : goal.overflow_sub-n
 overflow_sub-n c = omega (arith, crossed (goal.at.overflow_sub-n c).After-cross_entry)

@@ -19,9 +19,9 @@ bounds-list-i c = omega (arith, c.requires.rises.few, c.loop-i-test.true)
 
 pub own_on-k-requires : goal.own_on-k-requires
 own_on-k-requires c = record {
-      table = c.requires.table;
-      entries_bound = (c.requires.entries_bound.0, omega (arith, c.wide.ensures, c.requires.rises.low c.loop-i.i c.loop-i-test.true, c.requires.entries_bound));
-    }
+  table = c.requires.table;
+  entries_bound = (c.requires.entries_bound.0, omega (arith, c.wide.ensures, c.requires.rises.low c.loop-i.i c.loop-i-test.true, c.requires.entries_bound));
+}
 
 pub overflow_add-k : goal.overflow_add-k
 overflow_add-k c = omega (arith, here (goal.at.overflow_add-k c).After-own_on-k, c.loop-i.invariant)

@@ -22,7 +22,7 @@ new_object-requires c =
       whole_for = c.requires.whole_for;
       noted = c.requires.noted;
       t_lt_threads = in-range args.p args.cells.now args.remember.now args.tables.now args.m decode.result decode.ensures
-            (New c.in-New.t c.in-New.a c.in-New.b c.in-New.c) c.in-New.is refl;
+          (New c.in-New.t c.in-New.a c.in-New.b c.in-New.c) c.in-New.is refl;
     }
 
 pub copy-requires : goal.copy-requires
@@ -59,7 +59,7 @@ store-requires c =
       whole_for = c.requires.whole_for;
       chains_whole = c.requires.chains_whole;
       t_lt_threads = in-range args.p args.cells.now args.remember.now args.tables.now args.m decode.result decode.ensures
-            (Store c.in-Store.t c.in-Store.a c.in-Store.b c.in-Store.c) c.in-Store.is refl;
+          (Store c.in-Store.t c.in-Store.a c.in-Store.b c.in-Store.c) c.in-Store.is refl;
     }
 
 pub read-requires : goal.read-requires

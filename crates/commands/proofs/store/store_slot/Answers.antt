@@ -40,9 +40,9 @@ remember_slot-number-requires c =
       chainable = pre.chainable;
       chained = c.requires.chains_whole;
       at_bound = (
-              slot-few args.p args.cells.now args.remember.now args.tables.now args.x args.f args.v _ _ _ slot pre,
-              subst (λ (g : ℕ). g ≤ regions args.p) (sym slot.after) pre.low,
-            );
+        slot-few args.p args.cells.now args.remember.now args.tables.now args.x args.f args.v _ _ _ slot pre,
+        subst (λ (g : ℕ). g ≤ regions args.p) (sym slot.after) pre.low,
+      );
       named = slot-entry args.p args.cells.now args.remember.now args.tables.now args.x args.f args.v _ _ _ slot pre;
       new = slot-new args.p args.cells.now args.remember.now args.tables.now args.x args.f args.v _ _ _ slot pre;
     }

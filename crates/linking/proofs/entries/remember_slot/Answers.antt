@@ -17,9 +17,9 @@ returns-then-was-will c = record { remembered = kept c.if-was-will.true refl ref
 
 pub returns-then-entries-wide : goal.returns-then-entries-wide
 returns-then-entries-wide c = record {
-      remembered = full c.if-was-eq0.true (omega (arith, c.if-was-will.false, c.if-was-eq0.true)) (omega (arith, c.if-entries-wide.true, c.wide.ensures, c.used.ensures)) refl refl;
-      chains_after = chains-same c.requires.chained;
-    }
+  remembered = full c.if-was-eq0.true (omega (arith, c.if-was-will.false, c.if-was-eq0.true)) (omega (arith, c.if-entries-wide.true, c.wide.ensures, c.used.ensures)) refl refl;
+  chains_after = chains-same c.requires.chained;
+}
 
 pub comes-requires : goal.comes-requires
 comes-requires c =
@@ -27,18 +27,18 @@ comes-requires c =
       chainable = c.requires.chainable;
       chains_whole = c.requires.chained;
       place_bound = (
-          place-low c.requires.table c.args.at c.find_entry-place.ensures,
-          room (goal.at.comes-requires c).Else-entries-wide,
-          omega (arith, w, c.if-was-will.false, c.if-was-eq0.true),
-          omega (arith, w, c.requires.at_bound.1),
-        );
+        place-low c.requires.table c.args.at c.find_entry-place.ensures,
+        room (goal.at.comes-requires c).Else-entries-wide,
+        omega (arith, w, c.if-was-will.false, c.if-was-eq0.true),
+        omega (arith, w, c.requires.at_bound.1),
+      );
     }
 
 pub insert_entry-requires : goal.insert_entry-requires
 insert_entry-requires c = record {
-      table = c.requires.table;
-      entries_bound = (omega (arith, c.requires.chainable.entries), place-low c.requires.table c.args.at c.find_entry-place.ensures, room (goal.at.insert_entry-requires c).Else-entries-wide);
-    }
+  table = c.requires.table;
+  entries_bound = (omega (arith, c.requires.chainable.entries), place-low c.requires.table c.args.at c.find_entry-place.ensures, room (goal.at.insert_entry-requires c).Else-entries-wide);
+}
 
 pub returns-then-was-eq0 : goal.returns-then-was-eq0
 returns-then-was-eq0 c =

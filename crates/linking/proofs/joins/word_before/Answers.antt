@@ -16,9 +16,9 @@ loop-x-init c = walk-starts (omega arith) (omega arith) c.wide-x.ensures
 
 pub returns-then-x-eq0 : goal.returns-then-x-eq0
 returns-then-x-eq0 c = record {
-      upper_bound = c.loop-x.invariant.low;
-      before = walk_ends c.loop-x.invariant (λ (p : 0 < c.loop-x.x). omega (arith, c.if-x-eq0.true));
-    }
+  upper_bound = c.loop-x.invariant.low;
+  before = walk_ends c.loop-x.invariant (λ (p : 0 < c.loop-x.x). omega (arith, c.if-x-eq0.true));
+}
 
 pub overflow_add-at : goal.overflow_add-at
 overflow_add-at c = omega (arith, c.loop-x.invariant.low)
@@ -43,6 +43,6 @@ loop-x-preserved c = walk-goes-on (omega arith) c.loop-x.invariant (omega (arith
 
 pub returns : goal.returns
 returns c = record {
-      upper_bound = c.loop-x.invariant.low;
-      before = walk_ends c.loop-x.invariant (λ (p : 0 < c.loop-x.x). omega (arith, c.loop-x-test.false));
-    }
+  upper_bound = c.loop-x.invariant.low;
+  before = walk_ends c.loop-x.invariant (λ (p : 0 < c.loop-x.x). omega (arith, c.loop-x-test.false));
+}

@@ -5,9 +5,9 @@ use Rattle.linking.proofs.moves.open_place.Goals as goal
 
 pub raise_numbers-requires : goal.raise_numbers-requires
 raise_numbers-requires c = record {
-      to_in_bounds = simp length-set (omega (arith, c.move_up.ensures.long));
-      by_index = opens_small _ _ _ _ c.requires.place_le_used.0 c.move_up.ensures c.requires.by_index;
-    }
+  to_in_bounds = simp length-set (omega (arith, c.move_up.ensures.long));
+  by_index = opens_small _ _ _ _ c.requires.place_le_used.0 c.move_up.ensures c.requires.by_index;
+}
 
 pub shape_of-chains : goal.shape_of-chains
 shape_of-chains c = (opens c.requires.place_le_used.0 c.requires.place_le_used.1 c.move_up.ensures refl c.raise_numbers.ensures).long

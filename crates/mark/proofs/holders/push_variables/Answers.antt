@@ -24,9 +24,9 @@ loop-i-init c =
 
 pub variable_for-x-requires : goal.variable_for-x-requires
 variable_for-x-requires c = record {
-      room = (pushing-shaped c.requires.shaped c.loop-i.invariant.5).room;
-      le_variables = (c.requires.by_index.1.some, omega arith, c.requires.thread_bound);
-    }
+  room = (pushing-shaped c.requires.shaped c.loop-i.invariant.5).room;
+  le_variables = (c.requires.by_index.1.some, omega arith, c.requires.thread_bound);
+}
 
 pub push-t-requires : goal.push-t-requires
 push-t-requires c =

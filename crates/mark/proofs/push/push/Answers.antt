@@ -11,9 +11,9 @@ returns-then-x-eq0 c =
 
 pub owner-requires : goal.owner-requires
 owner-requires c = record {
-      room = c.requires.shaped.room;
-      page_lt_pages = omega (arith, begins-page _ _ _ _ (c.requires.fact (omega arith)));
-    }
+  room = c.requires.shaped.room;
+  page_lt_pages = omega (arith, begins-page _ _ _ _ (c.requires.fact (omega arith)));
+}
 
 pub returns-then-owner-r : goal.returns-then-owner-r
 returns-then-owner-r c =
@@ -21,9 +21,9 @@ returns-then-owner-r c =
 
 pub mark-w-requires : goal.mark-w-requires
 mark-w-requires c = record {
-      room = c.requires.shaped.room;
-      page_lt_pages = omega (arith, begins-page _ _ _ _ (c.requires.fact (omega arith)));
-    }
+  room = c.requires.shaped.room;
+  page_lt_pages = omega (arith, begins-page _ _ _ _ (c.requires.fact (omega arith)));
+}
 
 pub returns-then-bit_at-ne0 : goal.returns-then-bit_at-ne0
 returns-then-bit_at-ne0 c =
@@ -32,9 +32,9 @@ returns-then-bit_at-ne0 c =
 
 pub set_mark-requires : goal.set_mark-requires
 set_mark-requires c = record {
-      room = c.requires.shaped.room;
-      page_lt_pages = omega (arith, begins-page _ _ _ _ (c.requires.fact (omega arith)));
-    }
+  room = c.requires.shaped.room;
+  page_lt_pages = omega (arith, begins-page _ _ _ _ (c.requires.fact (omega arith)));
+}
 
 pub set_work-requires : goal.set_work-requires
 set_work-requires c =

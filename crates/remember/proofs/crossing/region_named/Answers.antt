@@ -10,9 +10,9 @@ returns-then-x-eq0 c =
 
 pub owner-requires : goal.owner-requires
 owner-requires c = record {
-      room = c.requires.room;
-      page_lt_pages = omega (arith, c.requires.names c.if-x-eq0.false, c.page_of.ensures, c.cell_named.ensures);
-    }
+  room = c.requires.room;
+  page_lt_pages = omega (arith, c.requires.names c.if-x-eq0.false, c.page_of.ensures, c.cell_named.ensures);
+}
 
 pub returns : goal.returns
 returns c =

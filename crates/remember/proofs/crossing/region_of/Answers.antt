@@ -15,9 +15,9 @@ returns-then-p-page_of c =
 
 pub region_named-requires : goal.region_named-requires
 region_named-requires c = record {
-      names = λ n. omega (arith, c.cell_named.ensures, c.page_of.ensures, c.if-p-page_of.false);
-      room = c.requires;
-    }
+  names = λ n. omega (arith, c.cell_named.ensures, c.page_of.ensures, c.if-p-page_of.false);
+  room = c.requires;
+}
 
 pub returns : goal.returns
 returns c = c.region_named.ensures

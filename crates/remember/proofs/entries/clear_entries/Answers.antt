@@ -7,9 +7,9 @@ loop-i-init c = (omega arith, omega arith, refl, clear-start _ _ _)
 
 pub put_entry-requires : goal.put_entry-requires
 put_entry-requires c = record {
-      entries_in_bounds = omega (arith, c.loop-i.invariant.2, c.requires.entries_in_bounds);
-      i_lt_entries = omega (arith, c.requires.to_le_entries);
-    }
+  entries_in_bounds = omega (arith, c.loop-i.invariant.2, c.requires.entries_in_bounds);
+  i_lt_entries = omega (arith, c.requires.to_le_entries);
+}
 
 pub overflow_add-i : goal.overflow_add-i
 overflow_add-i c = omega (arith, c.requires.to_le_entries, c.requires.entries_in_bounds)

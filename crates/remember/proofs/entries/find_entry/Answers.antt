@@ -22,9 +22,9 @@ overflow_add-low c = omega (arith, c.requires.entries_bound, c.requires.table.ro
 
 pub slot-requires : goal.slot-requires
 slot-requires c = record {
-      entries_in_bounds = c.requires.table.long;
-      i_lt_entries = omega (arith, c.requires.table.room, c.loop-size.invariant.1, c.loop-size-test.true);
-    }
+  entries_in_bounds = c.requires.table.long;
+  i_lt_entries = omega (arith, c.requires.table.room, c.loop-size.invariant.1, c.loop-size-test.true);
+}
 
 pub overflow_add-low-then-slot-at : goal.overflow_add-low-then-slot-at
 overflow_add-low-then-slot-at c = omega (arith, c.requires.entries_bound, c.requires.table.room, c.loop-size.invariant.1)
@@ -40,15 +40,17 @@ loop-size-preserved c =
     let l = c.loop-size in
     let P : ℕ → Type 0 = (λ k. (k + (l.size - l.size / 2) ≤ entries_used c.args.remember.now) × Between c.args.remember.now c.args.at k (k + (l.size - l.size / 2))) in
     let h : P c.if-slot-at.low =
-    elim c.if-slot-at.branch [ then-slot-at w ↦ subst P (sym w.low-is) (omega (arith, l.invariant.1), turn_up c.requires.table c.args.at l.invariant.2 c.loop-size-test.true c.slot.ensures w.if-slot-at.true)
-    | else-slot-at w ↦ subst P (sym w.low-is) (omega (arith, l.invariant.1), turn-down c.requires.table c.args.at l.invariant.2 c.loop-size-test.true c.slot.ensures w.if-slot-at.false) ] in
+    elim c.if-slot-at.branch [
+      | then-slot-at w ↦ subst P (sym w.low-is) (omega (arith, l.invariant.1), turn_up c.requires.table c.args.at l.invariant.2 c.loop-size-test.true c.slot.ensures w.if-slot-at.true)
+      | else-slot-at w ↦ subst P (sym w.low-is) (omega (arith, l.invariant.1), turn-down c.requires.table c.args.at l.invariant.2 c.loop-size-test.true c.slot.ensures w.if-slot-at.false)
+    ] in
     (omega (arith, c.loop-size-test.true), h.0, h.1)
 
 pub slot-requires-2 : goal.slot-requires-2
 slot-requires-2 c = record {
-      entries_in_bounds = c.requires.table.long;
-      i_lt_entries = omega (arith, c.requires.table.room, c.loop-size.invariant.0, c.loop-size.invariant.1);
-    }
+  entries_in_bounds = c.requires.table.long;
+  i_lt_entries = omega (arith, c.requires.table.room, c.loop-size.invariant.0, c.loop-size.invariant.1);
+}
 
 pub overflow_add-low-then-slot-at-2 : goal.overflow_add-low-then-slot-at-2
 overflow_add-low-then-slot-at-2 c = omega (arith, c.requires.entries_bound, c.requires.table.room, c.loop-size.invariant.1)

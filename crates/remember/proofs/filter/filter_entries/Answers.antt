@@ -14,15 +14,15 @@ loop-i-init c =
 
 pub slot-at-requires : goal.slot-at-requires
 slot-at-requires c = record {
-      entries_in_bounds = omega (arith, c.requires.entries.long, c.loop-i.invariant.2);
-      i_lt_entries = omega (arith, c.requires.entries.few);
-    }
+  entries_in_bounds = omega (arith, c.requires.entries.long, c.loop-i.invariant.2);
+  i_lt_entries = omega (arith, c.requires.entries.few);
+}
 
 pub region-old-requires : goal.region-old-requires
 region-old-requires c = record {
-      entries_in_bounds = omega (arith, c.requires.entries.long, c.loop-i.invariant.2);
-      i_lt_entries = omega (arith, c.requires.entries.few);
-    }
+  entries_in_bounds = omega (arith, c.requires.entries.long, c.loop-i.invariant.2);
+  i_lt_entries = omega (arith, c.requires.entries.few);
+}
 
 pub new_region-new-requires : goal.new_region-new-requires
 new_region-new-requires c =
@@ -35,8 +35,8 @@ new_region-new-requires c =
       p_in_bounds = c.requires.entries.cells-long;
       room = c.requires.room;
       names = λ z.
-              subst (λ (y : ℕ). Names a.p (get_or a.cells.now y 0)) (sym e)
-              (c.requires.entries.names l.i lt (sym (c.region-old.ensures ∙ read-region few l.invariant.1 l.invariant.3) ∙ z));
+          subst (λ (y : ℕ). Names a.p (get_or a.cells.now y 0)) (sym e)
+          (c.requires.entries.names l.i lt (sym (c.region-old.ensures ∙ read-region few l.invariant.1 l.invariant.3) ∙ z));
     }
 
 pub put_entry-requires : goal.put_entry-requires
@@ -75,9 +75,10 @@ loop-i-preserved c =
     let h : P c.if-new-ne0.remember c.if-new-ne0.j =
     elim c.if-new-ne0.branch [
       | then-new-ne0 z ↦ subst₂ P (sym (z.remember-is ∙ z.put_entry.ensures)) (sym z.j-is)
-    (let k = filter-keep few l.invariant.1 l.invariant.3 c.requires.entries.long (λ k u. rising-once M a.used c.requires.entries.rising k l.i u lt) slot.result v.result slot.ensures ev z.if-new-ne0.true in (omega (arith, l.invariant.1), k.size, k, behind-keep l.invariant.4 lt l.invariant.1 c.requires.entries.few (omega (arith, c.requires.entries.long, l.invariant.2)) c.requires.entries.rising slot.result v.result (slot.ensures ∙ read-slot few l.invariant.1 l.invariant.3)))
+          (let k = filter-keep few l.invariant.1 l.invariant.3 c.requires.entries.long (λ k u. rising-once M a.used c.requires.entries.rising k l.i u lt) slot.result v.result slot.ensures ev z.if-new-ne0.true in (omega (arith, l.invariant.1), k.size, k, behind-keep l.invariant.4 lt l.invariant.1 c.requires.entries.few (omega (arith, c.requires.entries.long, l.invariant.2)) c.requires.entries.rising slot.result v.result (slot.ensures ∙ read-slot few l.invariant.1 l.invariant.3)))
       | else-new-ne0 z ↦ subst₂ P (sym z.remember-is) (sym z.j-is)
-    (let k = filter-drop few l.invariant.1 l.invariant.3 v.result ev z.if-new-ne0.false in (omega (arith, l.invariant.1), k.size, k, behind-drop l.invariant.4)) ] in
+          (let k = filter-drop few l.invariant.1 l.invariant.3 v.result ev z.if-new-ne0.false in (omega (arith, l.invariant.1), k.size, k, behind-drop l.invariant.4))
+    ] in
     (omega (arith, lt), h.0, h.1, h.2, h.3)
 
 pub shape_of-remember : goal.shape_of-remember

@@ -12,9 +12,9 @@ home p T at w q e f = ap (λ (y : ℕ). owner_of p T y) (sym e) ∙ sym f
 
 pub owner-from-requires : goal.owner-from-requires
 owner-from-requires c = record {
-      room = c.requires.room;
-      page_lt_pages = omega (arith, c.page_at.ensures, at-page c.args.p c.args.at c.requires.at_bound);
-    }
+  room = c.requires.room;
+  page_lt_pages = omega (arith, c.page_at.ensures, at-page c.args.p c.args.at c.requires.at_bound);
+}
 
 pub returns-then-from-region : goal.returns-then-from-region
 returns-then-from-region c =

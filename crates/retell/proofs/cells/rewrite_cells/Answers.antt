@@ -12,9 +12,9 @@ loop-page-init c = (omega arith, refl, forwarded-start _ 0 _ _)
 
 pub rewrite_page-requires : goal.rewrite_page-requires
 rewrite_page-requires c = record {
-      readable = readable-rest c.loop-page.invariant.2 c.requires (omega arith) (omega (arith, c.loop-page-test.true));
-      page_lt_pages = c.loop-page-test.true;
-    }
+  readable = readable-rest c.loop-page.invariant.2 c.requires (omega arith) (omega (arith, c.loop-page-test.true));
+  page_lt_pages = c.loop-page-test.true;
+}
 
 pub overflow_add-page : goal.overflow_add-page
 overflow_add-page c = omega (arith, c.requires.tables-long.few, c.loop-page-test.true)

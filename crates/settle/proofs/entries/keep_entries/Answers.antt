@@ -26,10 +26,10 @@ used-requires c = omega (arith, c.requires.settles.entries.long)
 
 pub first_own-own-requires : goal.first_own-own-requires
 first_own-own-requires c = record {
-      table = settles-table c.requires.settles;
-      rises = c.requires.lists.rises;
-      entries_bound = (c.requires.settles.wiring.tables-long.entries-high, c.requires.settles.wiring.tables-long.few);
-    }
+  table = settles-table c.requires.settles;
+  rises = c.requires.lists.rises;
+  entries_bound = (c.requires.settles.wiring.tables-long.entries-high, c.requires.settles.wiring.tables-long.few);
+}
 
 pub first_touched-from-requires : goal.first_touched-from-requires
 first_touched-from-requires c =
@@ -38,11 +38,11 @@ first_touched-from-requires c =
 
 pub filter_entries-kept-requires : goal.filter_entries-kept-requires
 filter_entries-kept-requires c = record {
-      entries = (settles (goal.at.filter_entries-kept-requires c).After-wide-used).entries;
-      room = c.requires.settles.wiring.tables-long;
-      from_le_used = omega (arith, c.wide-used.ensures, c.used.ensures, c.first_own-own.ensures.upper_bound, c.first_touched-from.ensures.upper_bound);
-      unchanged = passed c.requires.settles c.requires.chained c.requires.lists c.first_own-own.ensures.upper_bound c.first_own-own.ensures.not_own (omega (arith, c.first_touched-from.ensures.upper_bound)) c.first_touched-from.ensures.upper_bound_2 c.args.cells.now;
-    }
+  entries = (settles (goal.at.filter_entries-kept-requires c).After-wide-used).entries;
+  room = c.requires.settles.wiring.tables-long;
+  from_le_used = omega (arith, c.wide-used.ensures, c.used.ensures, c.first_own-own.ensures.upper_bound, c.first_touched-from.ensures.upper_bound);
+  unchanged = passed c.requires.settles c.requires.chained c.requires.lists c.first_own-own.ensures.upper_bound c.first_own-own.ensures.not_own (omega (arith, c.first_touched-from.ensures.upper_bound)) c.first_touched-from.ensures.upper_bound_2 c.args.cells.now;
+}
 
 pub close_entries-requires : goal.close_entries-requires
 close_entries-requires c =

@@ -32,9 +32,9 @@ overflow_sub-i c = omega (arith, c.loop-x-test.true)
 
 pub slot-requires : goal.slot-requires
 slot-requires c = record {
-      entries_in_bounds = omega (arith, c.requires.slots.entries.long);
-      i_lt_entries = omega (arith, c.requires.slots.entries.few, c.loop-x.invariant.1.leads.low, c.loop-x-test.true);
-    }
+  entries_in_bounds = omega (arith, c.requires.slots.entries.long);
+  i_lt_entries = omega (arith, c.requires.slots.entries.few, c.loop-x.invariant.1.leads.low, c.loop-x-test.true);
+}
 
 pub offset_bounds-cells-at : goal.offset_bounds-cells-at
 offset_bounds-cells-at c = omega (arith, c.wide-at.ensures, c.slot.ensures, low (goal.at.offset_bounds-cells-at c).In-loop-x, c.requires.slots.entries.pages)

@@ -20,9 +20,9 @@ low c =
 
 pub var-requires : goal.var-requires
 var-requires c = record {
-      room = room-same c.loop-i.invariant.1 c.requires.room;
-      i_bound = low (goal.at.var-requires c).In-loop-i;
-    }
+  room = room-same c.loop-i.invariant.1 c.requires.room;
+  i_bound = low (goal.at.var-requires c).In-loop-i;
+}
 
 pub forward_ref-x-requires : goal.forward_ref-x-requires
 forward_ref-x-requires c =
@@ -31,9 +31,9 @@ forward_ref-x-requires c =
 
 pub set_var-requires : goal.set_var-requires
 set_var-requires c = record {
-      room = room-same c.loop-i.invariant.1 c.requires.room;
-      i_bound = low (goal.at.set_var-requires c).In-loop-i;
-    }
+  room = room-same c.loop-i.invariant.1 c.requires.room;
+  i_bound = low (goal.at.set_var-requires c).In-loop-i;
+}
 
 pub overflow_add-i : goal.overflow_add-i
 overflow_add-i c =

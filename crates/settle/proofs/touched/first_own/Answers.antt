@@ -42,21 +42,21 @@ find_entry-i-requires c = record { table = c.requires.table; entries_bound = ome
 
 pub returns-then-used-i : goal.returns-then-used-i
 returns-then-used-i c = record {
-      upper_bound = omega (arith, c.loop-a.invariant.1);
-      not_own = λ i l. own-from c.requires.rises c.loop-a-test.true c.wide-page.ensures (place (goal.at.returns-then-used-i c).After-find_entry-i) c.loop-a.invariant.2 i (omega (arith, c.if-used-i.true));
-    }
+  upper_bound = omega (arith, c.loop-a.invariant.1);
+  not_own = λ i l. own-from c.requires.rises c.loop-a-test.true c.wide-page.ensures (place (goal.at.returns-then-used-i c).After-find_entry-i) c.loop-a.invariant.2 i (omega (arith, c.if-used-i.true));
+}
 
 pub slot-requires : goal.slot-requires
 slot-requires c = record {
-      entries_in_bounds = c.requires.table.long;
-      i_lt_entries = omega (arith, c.requires.table.room, c.loop-a.invariant.1, c.if-used-i.false);
-    }
+  entries_in_bounds = c.requires.table.long;
+  i_lt_entries = omega (arith, c.requires.table.room, c.loop-a.invariant.1, c.if-used-i.false);
+}
 
 pub returns-then-page_at-page : goal.returns-then-page_at-page
 returns-then-page_at-page c = record {
-      upper_bound = (place (goal.at.returns-then-page_at-page c).After-find_entry-i).within;
-      not_own = own-from c.requires.rises c.loop-a-test.true c.wide-page.ensures (place (goal.at.returns-then-page_at-page c).After-find_entry-i) c.loop-a.invariant.2;
-    }
+  upper_bound = (place (goal.at.returns-then-page_at-page c).After-find_entry-i).within;
+  not_own = own-from c.requires.rises c.loop-a-test.true c.wide-page.ensures (place (goal.at.returns-then-page_at-page c).After-find_entry-i) c.loop-a.invariant.2;
+}
 
 pub overflow_add-a : goal.overflow_add-a
 overflow_add-a c = omega (arith, c.loop-a-test.true)
@@ -74,6 +74,6 @@ loop-a-preserved c = (
 
 pub returns : goal.returns
 returns c = record {
-      upper_bound = omega (arith, c.loop-a.invariant.1);
-      not_own = λ i l a h q. c.loop-a.invariant.2 a (omega (arith, c.loop-a-test.false)) i (omega (arith, c.loop-a.invariant.1)) (sym q);
-    }
+  upper_bound = omega (arith, c.loop-a.invariant.1);
+  not_own = λ i l a h q. c.loop-a.invariant.2 a (omega (arith, c.loop-a-test.false)) i (omega (arith, c.loop-a.invariant.1)) (sym q);
+}

@@ -21,9 +21,9 @@ low c =
 
 pub used-requires : goal.used-requires
 used-requires c = record {
-      room = subst (Room c.args.p) (sym c.loop-j.invariant.3) c.requires.room;
-      page_lt_pages = low (goal.at.used-requires c).After-wide-page;
-    }
+  room = subst (Room c.args.p) (sym c.loop-j.invariant.3) c.requires.room;
+  page_lt_pages = low (goal.at.used-requires c).After-wide-page;
+}
 
 -- its cells in use
 few : (c : goal.After-wide-used) → c.wide-used.result ≤ page_cells
@@ -44,9 +44,9 @@ overflow_cast-left c = omega (arith, c.on_one_page-left.ensures)
 
 pub trim_words-requires : goal.trim_words-requires
 trim_words-requires c = record {
-      room = subst (Room c.args.p) (sym c.loop-j.invariant.3) c.requires.room;
-      page_lt_pages = low (goal.at.trim_words-requires c).After-wide-page;
-    }
+  room = subst (Room c.args.p) (sym c.loop-j.invariant.3) c.requires.room;
+  page_lt_pages = low (goal.at.trim_words-requires c).After-wide-page;
+}
 
 pub overflow_sub-rest : goal.overflow_sub-rest
 overflow_sub-rest c = omega (arith, c.on_one_page-left.ensures)

@@ -58,9 +58,9 @@ is_ref-requires c = c.requires.room
 
 pub cross-requires : goal.cross-requires
 cross-requires c = record {
-      names = λ n. begins-page _ _ _ _ (c.is_ref.ensures.0 c.if-not-is_ref.false (omega arith));
-      room = c.requires.room;
-    }
+  names = λ n. begins-page _ _ _ _ (c.is_ref.ensures.0 c.if-not-is_ref.false (omega arith));
+  room = c.requires.room;
+}
 
 pub overflow_add-n : goal.overflow_add-n
 overflow_add-n c = omega (arith, c.fields.invariant.5, c.requires.entries_bound)
@@ -93,7 +93,7 @@ fields-preserved c =
       elim c.if-cross-gt0.branch [
         | then-cross-gt0+else-entries-n w ↦ w.n-is ∙ ap (λ (k : ℕ). k + 1) fields.invariant.6 ∙ sym (crosses-yes args.p args.cells.now args.tables.now cell-on.result fields.f here (omega (arith, w.if-cross-gt0.true)))
         | else-cross-gt0 w ↦ w.n-is ∙ fields.invariant.6 ∙ sym (crosses-no args.p args.cells.now args.tables.now cell-on.result fields.f here (omega (arith, w.if-cross-gt0.false)))
-        ],
+      ],
     )
 
 pub zero_from-requires : goal.zero_from-requires
@@ -161,9 +161,9 @@ returns-then-not-ok c =
           said-no _ w.is_ref.ensures w.if-not-is_ref.true (field-is-ref (reached h.whole w.cell_on-cell.ensures (w.wide-used.ensures ∙ w.used.ensures) w.pages-test.true w.cells.invariant.2 w.cells-test.true).object (w.field_count-refs.ensures ∙ ap (field_count Reference) w.head-head.ensures) w.field-x.ensures w.fields-test.true)
       | then-pages-test+then-cells-test+else-all-gt-FIELDS+else-work-ne0+then-fields-test+else-not-is_ref+then-cross-gt0+then-entries-n w ↦
           too_many args.p args.cells.now args.tables.now w.cell_on-cell.result w.fields.f w.fields.invariant.6
-            (crosses-at args.p args.cells.now args.tables.now pages.page w.cells.place w.cell_on-cell.result w.fields.f w.owner-owner.result w.field-x.result w.cross.result
-            w.cell_on-cell.ensures w.owner-owner.ensures w.field-x.ensures w.cross.ensures (w.wide-used.ensures ∙ w.used.ensures) (w.field_count-refs.ensures ∙ ap (field_count Reference) w.head-head.ensures) w.pages-test.true w.cells.invariant.2 w.fields.invariant.3 w.cells-test.true w.fields-test.true)
-            w.if-cross-gt0.true w.if-entries-n.true (omega (arith, w.cell_on-cell.ensures, w.pages-test.true, w.cells.invariant.2, w.cells-test.true, w.fields.invariant.3, w.fields-test.true)) h
+          (crosses-at args.p args.cells.now args.tables.now pages.page w.cells.place w.cell_on-cell.result w.fields.f w.owner-owner.result w.field-x.result w.cross.result
+          w.cell_on-cell.ensures w.owner-owner.ensures w.field-x.ensures w.cross.ensures (w.wide-used.ensures ∙ w.used.ensures) (w.field_count-refs.ensures ∙ ap (field_count Reference) w.head-head.ensures) w.pages-test.true w.cells.invariant.2 w.fields.invariant.3 w.cells-test.true w.fields-test.true)
+          w.if-cross-gt0.true w.if-entries-n.true (omega (arith, w.cell_on-cell.ensures, w.pages-test.true, w.cells.invariant.2, w.cells-test.true, w.fields.invariant.3, w.fields-test.true)) h
       | then-pages-test+then-cells-test+else-all-gt-FIELDS+else-work-ne0+else-fields-test+then-not-zero_from w ↦
           said-no _ w.zero_from.ensures w.if-not-zero_from.true (zero_rest (w.field_count-refs.ensures ∙ ap (field_count Reference) w.head-head.ensures) (w.field_count.ensures ∙ ap (field_count Number) w.head-head.ensures) (reached h.whole w.cell_on-cell.ensures (w.wide-used.ensures ∙ w.used.ensures) w.pages-test.true w.cells.invariant.2 w.cells-test.true).object)
     ])

@@ -11,29 +11,29 @@ returns-then-p-used c = says-no (λ h. omega (arith, h.room))
 
 pub named_whole-requires : goal.named_whole-requires
 named_whole-requires c = record {
-      room = c.requires.room;
-      p_in_bounds = c.requires.p_in_bounds;
-      p_in_bounds_2 = c.requires.p_in_bounds_2;
-      used_value = (c.wide-used.ensures ∙ c.used.ensures, c.if-p-used.false);
-    }
+  room = c.requires.room;
+  p_in_bounds = c.requires.p_in_bounds;
+  p_in_bounds_2 = c.requires.p_in_bounds_2;
+  used_value = (c.wide-used.ensures ∙ c.used.ensures, c.if-p-used.false);
+}
 
 pub returns-then-not-named_whole : goal.returns-then-not-named_whole
 returns-then-not-named_whole c = says-no (λ h. said-no _ c.named_whole.ensures c.if-not-named_whole.true h.named)
 
 pub rising-requires : goal.rising-requires
 rising-requires c = record {
-      p_in_bounds = c.requires.p_in_bounds_2;
-      used_value = (c.wide-used.ensures ∙ c.used.ensures, c.if-p-used.false);
-    }
+  p_in_bounds = c.requires.p_in_bounds_2;
+  used_value = (c.wide-used.ensures ∙ c.used.ensures, c.if-p-used.false);
+}
 
 pub returns-then-not-rising : goal.returns-then-not-rising
 returns-then-not-rising c = says-no (λ h. said-no _ c.rising.ensures c.if-not-rising.true h.rising)
 
 pub rest_zero-requires : goal.rest_zero-requires
 rest_zero-requires c = record {
-      p_in_bounds = c.requires.p_in_bounds_2;
-      used_value = (c.wide-used.ensures ∙ c.used.ensures, c.if-p-used.false);
-    }
+  p_in_bounds = c.requires.p_in_bounds_2;
+  used_value = (c.wide-used.ensures ∙ c.used.ensures, c.if-p-used.false);
+}
 
 pub returns-then-not-rest_zero : goal.returns-then-not-rest_zero
 returns-then-not-rest_zero c = says-no (λ h. said-no _ c.rest_zero.ensures c.if-not-rest_zero.true h.rest)

@@ -86,11 +86,11 @@ loop-page-preserved c =
           | else-used-lt-CELLS v ↦
               subst₂ (λ (a : List ℕ) (b : List Bool). Tallied args.p args.tables.now a b (loop.page + 1)) (sym w.objects-is) (sym (w.partly-is ∙ v.partly-is))
               (tallied-full args.p args.tables.now loop.objects loop.partly loop.page wide.result w.wide-used.result loop.invariant.1 (wide.ensures ∙ owner.ensures) (w.wide-used.ensures ∙ w.used.ensures) (omega (arith, w.if-owner-ne0.true)) (owner-room args.p args.tables.now (length args.tables.now) loop.page pre (page-whole.ensures.0 if1.false) (wide.ensures ∙ owner.ensures)) (omega (arith, v.if-used-lt-CELLS.false)))
-          ]
+        ]
         | else-owner-ne0 w ↦
             subst₂ (λ (a : List ℕ) (b : List Bool). Tallied args.p args.tables.now a b (loop.page + 1)) (sym w.objects-is) (sym w.partly-is)
             (tallied-free args.p args.tables.now loop.objects loop.partly loop.page wide.result _ loop.invariant.1 (wide.ensures ∙ owner.ensures) refl w.if-owner-ne0.false)
-        ],
+      ],
       below_more _ _ loop.invariant.2 (page-whole.ensures.0 if1.false),
     )
 
