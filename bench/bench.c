@@ -265,9 +265,10 @@ static void natural(const char *name, Imported (*import)(void), Imported wanted,
 
 static void by_heaps(void) {
     Imported imported;
+    if (!picked) printf("A ratio is the time by hand divided by ours: below 1 ours is slower than by hand, above 1 it is faster.\n");
     printf("\n| workload | commands | ours, ns a command | of these the check | by hand | ratio | ratio less the check |\n|---|--:|--:|--:|--:|--:|--:|\n");
     Times t = row(import_commands("import, blocks of 1,000", 1000, SHEETS, &imported));
-    row(import_commands("import, one block", 100000, SHEETS, &imported));
+    Times whole = row(import_commands("import, one block", 100000, SHEETS, &imported));
     row(import_commands("import of one sheet a thread, blocks of 5", 5, 1, &imported));
     row(end_fifteen("15 ends of 480 objects, few survive", 0));
     row(end_fifteen("15 ends of 480 objects, nine in ten survive", 1));
@@ -308,6 +309,7 @@ static void by_heaps(void) {
     free_workload(&w);
     printf("\n| the import of %u objects, written on | ns an object | ns for what is a command above |\n|---|--:|--:|\n", imported.objects);
     printf("| Taldreku, blocks of 1,000 | %.1f | %.1f |\n", t.ours / imported.objects, t.ours / commands);
+    printf("| Taldreku, one block | %.1f | %.1f |\n", whole.ours / imported.objects, whole.ours / commands);
     printf("| the hand-written heap | %.1f | %.1f |\n", t.plain / imported.objects, t.plain / commands);
 #ifdef HAVE_TALLOC
     natural("talloc, a context for each epoch", import_talloc, imported, commands);

@@ -3,7 +3,11 @@
  * 3 and before 4, 5 and 15. Their length, and prepare, are in calls.c. */
 #include "check.h"
 
+#include <stdlib.h>
 #include <string.h>
+
+/* write_chains, as the manual page has it; lib/test takes it from there */
+#include "write_chains.h"
 
 static Lent heap;
 static Block block;
@@ -189,6 +193,16 @@ static void ends(Edge edge) {
 
 /* ---- drawn commands, one at a time */
 
+/* The lines of the manual page write the chains of a heap that has the other three arrays, over whatever stands there. */
+static void written_anew(void) {
+    size_t words = chains_length();
+    uint32_t *anew = malloc(words * sizeof(uint32_t));
+    memset(anew, 255, words * sizeof(uint32_t));
+    write_chains(heap.remember, heap.tables, anew);
+    CHECK(memcmp(anew, heap.chains, words * sizeof(uint32_t)) == 0);
+    free(anew);
+}
+
 /* Each number of an end and of a store, as bits. */
 static uint32_t ended, stored, collected;
 
@@ -212,6 +226,7 @@ static void draw_one(Sizes s) {
     if (code == TALDREKU_COLLECT) collected |= 1u << number;
     CHECK(number == TALDREKU_DONE || same_words(&heap, &before));
     CHECK(entries_rise(&heap) && chains_right(&heap));
+    written_anew();
     CHECK(memcmp(heap.chains + chains_length(), before.chains + chains_length(), (heap.chains_words - chains_length()) * sizeof(uint32_t)) == 0);
     drop(&before);
 }

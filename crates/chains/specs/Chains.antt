@@ -1,6 +1,6 @@
 -- The chains of the remember table by region (02, W6): a first word for each region, region 1 first, then a next word for each entry; each is 0 for
 -- none, else 1 + the place of an entry.
-use Rattle.std.specs.Prelude.{ℕ, zero, suc, ◌+◌, ◌≤◌, ◌<◌, cond, List, [], ◌∷◌, ◌++◌, ◌≡◌, length, get_or, take, drop, eqb}
+use Rattle.std.specs.Prelude.{ℕ, zero, suc, ◌≤◌, ◌<◌, cond, List, [], ◌∷◌, ◌++◌, ◌≡◌, length, take, drop, eqb}
 use Rattle.lists.specs.Listed.{listed}
 use Rattle.rules.specs.declared.Sizes.{Sizes}
 use Rattle.rules.specs.Regions.{regions}

@@ -1,5 +1,5 @@
 -- The chains of a table of three entries, with room for four.
-use Rattle.std.specs.Prelude.{ℕ, List, [], ◌∷◌, ◌≡◌, refl}
+use Rattle.std.specs.Prelude.{List, [], ◌∷◌, ◌≡◌, refl}
 use Rattle.lists.specs.Listed.{listed}
 use Rattle.remember.specs.Table.{Entry, entry}
 use Rattle.chains.specs.Chains.{first_of, nexts_of, chains_of, places_of, followed}

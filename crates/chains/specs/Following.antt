@@ -1,8 +1,8 @@
 -- The chain of a region leads to exactly the places of its entries, in rising order, each once.
-use Rattle.std.specs.Prelude.{ℕ, zero, suc, ◌+◌, ◌-◌, ◌≤◌, ◌<◌, Bool, true, false, cond, List, [], ◌∷◌, ◌≡◌, refl, length, get_or, drop, eqb}
+use Rattle.std.specs.Prelude.{ℕ, zero, suc, ◌+◌, ◌≤◌, ◌<◌, Bool, true, false, cond, List, [], ◌∷◌, ◌≡◌, refl, length, get_or, drop, eqb}
 use Rattle.std.proofs.Common.{inl, inr, sym, ◌∙◌, subst, arith, drop_of_length-le, drop-cons, eq-eqb, ne_eqb}
 use Rattle.std.proofs.Math.Path.{ap}
-use Rattle.std.proofs.Math.Decide.{dec_lt, ℕ_discrete}
+use Rattle.std.proofs.Math.Decide.{ℕ_discrete}
 use Rattle.lists.specs.Members.{In}
 use Rattle.remember.specs.Table.{Entry, nth_region, unused}
 use Rattle.chains.specs.Chains.{chains_of, places_of, followed}

@@ -1,7 +1,7 @@
 -- A walk along the chain of a region: from its first word, and from the next word of the entry at hand, to the first of its entries from a place
 -- on; the entries between are of other regions.
 use Prim.Native.Nat.{ℕ, zero, suc, ◌+◌, ◌-◌, ◌≤◌, ◌<◌}
-use Rattle.std.specs.Prelude.{Bool, true, false, cond, List, ◌≡◌, refl, eqb, length, take}
+use Rattle.std.specs.Prelude.{List, ◌≡◌, length}
 use Rattle.std.proofs.Common.{sym, ◌∙◌, length-take}
 use Rattle.std.proofs.Math.Path.{ap, subst}
 use native.Mathlib.Omega.{arith}

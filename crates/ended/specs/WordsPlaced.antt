@@ -7,7 +7,7 @@ use Rattle.std.proofs.Math.Path.{subst}
 use Rattle.std.proofs.Math.ListN.{get_or-eq_default}
 use Rattle.rules.specs.declared.Sizes.{Sizes}
 use Rattle.rules.specs.Regions.{region_at, thread_of}
-use Rattle.rules.specs.Graph.{target, ended}
+use Rattle.rules.specs.Graph.{target}
 use Rattle.rules.specs.Rules as ru
 use Rattle.rules.specs.Rules.{graph}
 use Rattle.laws.specs.GraphLaws.{Alive, target-called}
@@ -19,7 +19,7 @@ use Rattle.laws.specs.Survivors.{held-around}
 use Rattle.layout.specs.Cells.{page_of}
 use Rattle.layout.specs.Objects.{begins-page}
 use Rattle.layout.specs.Words.{Words, depth_in, depths_in, owner_in, home_in, graph_of, heap_of}
-use Rattle.promises.specs.Whole.{WholeFor, Open}
+use Rattle.promises.specs.Whole.{WholeFor}
 use Rattle.promises.specs.Reading.{alive-used, used-home, used-owned, length-depths, depth-at}
 use Rattle.promises.specs.Agreed.{home-at, heap-stands, back, targets-agree}
 use Rattle.promises.specs.Here.{here-depth}

@@ -14,7 +14,7 @@ use Rattle.lists.specs.Members.{in_bounds}
 use Rattle.lists.specs.Listed.{listed_same}
 use Rattle.rules.specs.declared.Sizes.{Sizes}
 use Rattle.rules.specs.Regions.{regions, only}
-use Rattle.rules.specs.Graph.{Graph, ended}
+use Rattle.rules.specs.Graph.{Graph}
 use Rattle.rules.specs.Pages.{Pages, Move, Placing, none_moved, place_all, new_cell, released, owned_from, slide_below, filled_by}
 use Rattle.rules.specs.Rules as ru
 use Rattle.rules.specs.Rules.{Regioned, graph, home_of, object_cell, cell_count, object_at, goal_of, copies, vacated, slides, slid}

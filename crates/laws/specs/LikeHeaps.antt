@@ -20,7 +20,7 @@ use Rattle.rules.specs.NeverFreeing.{Access, no_field, references, numbers, Sour
 use Rattle.rules.specs.NeverFreeing.{Assignment, nothing, variable, reference, number, Effect, opens, ends, collects, makes, assigns}
 use Rattle.rules.specs.Regions.{control, region_at, only}
 use Rattle.rules.specs.Pages.{Pages, take}
-use Rattle.rules.specs.Graph.{Graph, ended, freed_by}
+use Rattle.rules.specs.Graph.{Graph, freed_by}
 use Rattle.laws.specs.GraphLaws.{Alive}
 use Rattle.laws.specs.EndLaws.{was-alive}
 use Rattle.laws.specs.SameRules.{renamed, renamed-zeros, Partners, partners-ended, same-freed}

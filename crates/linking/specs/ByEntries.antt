@@ -1,5 +1,5 @@
 -- Words that are chained by the regions of the entries are those of the chains, and the other way round.
-use Rattle.std.specs.Prelude.{ℕ, zero, suc, ◌+◌, ◌-◌, ◌≤◌, ◌<◌, Bool, List, ◌++◌, ◌≡◌, refl, ltb, eqb, length, get_or, set, take, drop}
+use Rattle.std.specs.Prelude.{ℕ, zero, suc, ◌+◌, ◌-◌, ◌≤◌, ◌<◌, Bool, List, ◌++◌, ◌≡◌, refl, ltb, eqb, length, get_or, take, drop}
 use Rattle.std.proofs.Math.Bool.{cond}
 use Rattle.std.proofs.Common.{sym, subst, ◌∙◌, arith, take-append-drop, lt-ltb, le-ltb, eq-eqb, ne_eqb}
 use Rattle.std.proofs.Math.Path.{ap}

@@ -1,5 +1,5 @@
 -- The chains after an entry comes, goes or gets another region are those of the entries then.
-use Rattle.std.specs.Prelude.{ℕ, suc, ◌+◌, ◌-◌, ◌^◌, ◌≤◌, ◌<◌, List, ◌++◌, ◌≡◌, refl, length, get_or, set, take, drop}
+use Rattle.std.specs.Prelude.{ℕ, suc, ◌+◌, ◌-◌, ◌^◌, ◌≤◌, ◌<◌, List, ◌++◌, ◌≡◌, length, get_or, set, take, drop}
 use Rattle.std.proofs.Common.{sym, ap, ap₂, subst, ◌∙◌, arith, length-set, ext_get_or}
 use Rattle.std.proofs.Math.Decide.{ℕ_discrete, dec_lt}
 use Rattle.lists.specs.Stores.{put, past}
@@ -14,7 +14,7 @@ use Rattle.chains.specs.Chains.{Among, Chainable, ChainsWhole, chains_of, with_c
 use Rattle.chains.specs.Walking.{whole_long}
 use Rattle.linking.specs.Words.{Chained, chained-onward}
 use Rattle.linking.specs.Shifting.{Opened, opened-chained, Closed, closed-chained}
-use Rattle.linking.specs.Joining.{Else, Linked, linked_long, linked-else, linked-chains, Unlinked, unlinked-long, unlinked-else, unlinked-chains}
+use Rattle.linking.specs.Joining.{Linked, linked_long, linked-else, linked-chains, Unlinked, unlinked-long, unlinked-else, unlinked-chains}
 use Rattle.linking.specs.ByEntries.{word_region, region-first, region-next, chains-chained, chains-rest, chained-chains, begins-with, without, without-here, without-else, Lacks, lacks-parted, same-else}
 
 -- lent words, with the chains of these entries in them; the words past them stay

@@ -1,7 +1,7 @@
 -- Words that are renumbered by h, in place or as they move by one place.
 use Rattle.std.specs.Prelude.{ℕ, suc, ◌+◌, ◌-◌, ◌≤◌, ◌<◌, List, ◌≡◌, refl, length, get_or, set}
 use Rattle.std.proofs.Common.{sym, ap, ◌∙◌, arith, length-set}
-use Rattle.std.proofs.Math.Decide.{ℕ_discrete, dec_lt}
+use Rattle.std.proofs.Math.Decide.{ℕ_discrete}
 use Rattle.lists.specs.Stores.{put, past}
 use Rattle.linking.specs.Shifting.{raised, lowered, Opened, Closed}
 

@@ -1,7 +1,7 @@
 -- The words of the chains by position: word w belongs to region f w. The first R words are those of the regions 1 .. R, the first words; each
 -- word after them is that of an entry, whose region is 0 while it is in no chain. A word x other than 0 names position R + x - 1.
-use Rattle.std.specs.Prelude.{ℕ, zero, suc, ◌+◌, ◌-◌, ◌≤◌, ◌<◌, cond, List, ◌≡◌, ltb, length, get_or}
-use Rattle.std.proofs.Common.{sym, ap, ◌∙◌, arith}
+use Rattle.std.specs.Prelude.{ℕ, suc, ◌+◌, ◌-◌, ◌≤◌, ◌<◌, List, ◌≡◌, get_or}
+use Rattle.std.proofs.Common.{arith}
 use Rattle.std.proofs.Math.Decide.{ℕ_discrete, dec_lt}
 
 -- x names the first of n positions, from s on, that is of region h

@@ -12,7 +12,7 @@ use Rattle.rules.specs.Graph.{target}
 use Rattle.laws.specs.RegionLaws.{region-high}
 use Rattle.laws.specs.JoinLaws.{further-out}
 use Rattle.laws.specs.GraphLaws.{Holds, Reaches, target-absorbs, target-reached, target-called, target-furthest}
-use Rattle.layout.specs.Places.{depth_of, mark_of, room, mark_at}
+use Rattle.layout.specs.Places.{depth_of, mark_of, mark_at}
 use Rattle.layout.specs.Cells.{work_at, work_of, page_of, place_of, cell_of, word_of, page_cells}
 use Rattle.layout.specs.Marks.{marked, not-marked}
 use Rattle.layout.specs.Objects.{begins-page}

@@ -13,7 +13,6 @@ use Rattle.std.proofs.lemmas.Bool.{lt-leb}
 use Rattle.lists.specs.Members.{In, map_same, get_d-in}
 use Rattle.rules.specs.declared.Sizes.{Sizes}
 use Rattle.rules.specs.NeverFreeing.{Object, no_object}
-use Rattle.rules.specs.Graph.{crosses}
 use Rattle.rules.specs.Rules.{Regioned, graph, home_of, object_at}
 use Rattle.laws.specs.GraphLaws.{Alive}
 use Rattle.laws.specs.SameRules.{renamed}
@@ -21,7 +20,7 @@ use Rattle.laws.specs.LikeCells.{Held, by, none, held_by}
 use Rattle.layout.specs.declared.Kind.TheVariants.{Reference, Number}
 use Rattle.layout.specs.Places.{cells_words}
 use Rattle.layout.specs.Cells.{head_at, work_at, field_at, field_of, head_word, most_fields, refs-head, nums-head, head-determined, first-number, first_field, room_for, room-is, page_of, cell_of, word_of}
-use Rattle.layout.specs.Objects.{head, used-begins, begins-page, slot-word}
+use Rattle.layout.specs.Objects.{used-begins, begins-page, slot-word}
 use Rattle.layout.specs.Words.{Words, BeginsIn, head_in, owner_in, refs_in, nums_in, ref_count, num_count}
 use Rattle.remember.specs.Crossing.{other, crosses_to, cross_to}
 use Rattle.remember.specs.Crosses.{field-cross, no-cross}

@@ -1,6 +1,6 @@
 -- The entries of whole tables can be chained: their regions are among those that there are.
 use Rattle.std.specs.Prelude.{ℕ, ◌-◌, ◌≤◌, ◌<◌, ◌≡◌, refl, List, Bool, true, false, cond, get_or, ltb, leb, eqb}
-use Rattle.std.proofs.Common.{arith, sym, ap, subst, ◌∙◌, ltb-true}
+use Rattle.std.proofs.Common.{arith, sym, ap, subst, ltb-true}
 use Rattle.rules.specs.declared.Sizes.{Sizes}
 use Rattle.rules.specs.Regions.{regions}
 use Rattle.layout.specs.Places.{sizes_at, owner_of, entries_used, slot_in}
@@ -9,7 +9,7 @@ use Rattle.layout.specs.Objects.{is_slot}
 use Rattle.layout.specs.Words.{Words, words}
 use Rattle.remember.specs.Table.{region}
 use Rattle.remember.specs.TableWords.{to-long, to_at}
-use Rattle.remember.specs.Crossing.{other, region_of, crosses_at, cross_to}
+use Rattle.remember.specs.Crossing.{other, region_of, cross_to}
 use Rattle.chains.specs.Chains.{Chainable, ChainsWhole}
 use Rattle.promises.specs.Whole.{WholeFor, WholeWords}
 use Rattle.promises.specs.Slices.{slices, WholeSlices}

@@ -1,5 +1,5 @@
 -- The words of a heap (01, "Sizes and tables"; 02, W1 to W3 and W6): every lent word up to the four lengths. Nothing is left open.
-use Rattle.std.specs.Prelude.{ℕ, zero, suc, ◌+◌, List, [], ◌∷◌, ◌++◌, map, cond, length, get_or, drop, replicate}
+use Rattle.std.specs.Prelude.{ℕ, zero, suc, List, [], ◌∷◌, ◌++◌, map, cond, length, get_or, drop, replicate}
 use Rattle.lists.specs.Listed.{listed}
 use Rattle.rules.specs.declared.Sizes.{Sizes}
 use Rattle.rules.specs.NeverFreeing.{Object, no_object}

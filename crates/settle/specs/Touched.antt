@@ -1,6 +1,6 @@
 -- Which entries an end touches: those of slots on the ending region's pages, and those into the region. The pages are listed in rising number and
 -- the slots rise, so the first listed page with an entry has the first of the own ones.
-use Rattle.std.specs.Prelude.{◌≡◌, refl, ◌≢◌, List, ℕ, ◌+◌, ◌-◌, ◌*◌, ◌≤◌, ◌<◌, get_or}
+use Rattle.std.specs.Prelude.{◌≡◌, refl, ◌≢◌, List, ℕ, ◌+◌, ◌*◌, ◌≤◌, ◌<◌, get_or}
 use Rattle.std.proofs.Common.{sym, ap, ◌∙◌, arith}
 use Rattle.std.proofs.Math.Decide.{dec_lt, ℕ_discrete}
 use Rattle.lists.specs.Part.{Rises, Off, Lists, cut-here}

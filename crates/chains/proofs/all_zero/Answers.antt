@@ -1,4 +1,4 @@
-use Rattle.std.proofs.Common.{ℕ, ◌-◌, ◌≤◌, get_or, ◌≡◌, arith, below_more}
+use Rattle.std.proofs.Common.{ℕ, ◌≤◌, get_or, ◌≡◌, arith, below_more}
 use Rattle.lists.specs.Says.{says-yes, says-no}
 use Rattle.chains.proofs.all_zero.Goals as goal
 

@@ -1,5 +1,5 @@
 -- `first` has the first words of the entries from place i on, whose next words are right.
-use Rattle.std.proofs.Common.{ℕ, ◌+◌, ◌-◌, ◌≤◌, ◌<◌, ◌≡◌, length, get_or}
+use Rattle.std.proofs.Common.{ℕ, ◌+◌, ◌≤◌, ◌<◌, ◌≡◌, length, get_or}
 use Rattle.layout.specs.Places.{entries_used}
 use Rattle.remember.specs.Table.{entries_in}
 use Rattle.chains.specs.Firsts.{next_of}

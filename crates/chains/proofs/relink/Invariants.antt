@@ -1,5 +1,5 @@
 -- The words are those of the chains of the entries from place i on.
-use Rattle.std.proofs.Common.{◌+◌, ◌-◌, ◌≤◌, ◌≡◌, length}
+use Rattle.std.proofs.Common.{◌+◌, ◌≤◌, ◌≡◌, length}
 use Rattle.layout.specs.Places.{entries_used}
 use Rattle.remember.specs.Table.{entries_in}
 use Rattle.chains.specs.Linking.{Linked}

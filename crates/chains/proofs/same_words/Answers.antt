@@ -1,4 +1,4 @@
-use Rattle.std.proofs.Common.{◌-◌, arith, below_more}
+use Rattle.std.proofs.Common.{arith, below_more}
 use Rattle.lists.specs.Says.{says-yes, says-no}
 use Rattle.chains.proofs.same_words.Goals as goal
 

@@ -1,4 +1,4 @@
-use Rattle.std.proofs.Common.{arith, get_or, set, ℕ, ◌+◌, ◌-◌, List, ◌≡◌, refl, sym, ap, ◌∙◌, subst}
+use Rattle.std.proofs.Common.{arith, get_or, set, ℕ, ◌+◌, List, ◌≡◌, refl, sym, ap, ◌∙◌, subst}
 use Rattle.layout.specs.Cells.{word_at, work_at, cell_words}
 use Rattle.copy.specs.Moves.{Half, half-start, half-next, half-copied, Copied}
 use Rattle.copy.proofs.copy_cell.Goals as goal

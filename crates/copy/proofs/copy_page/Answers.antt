@@ -1,5 +1,5 @@
 use Rattle.std.proofs.Common.{arith, length, ℕ, ◌-◌, ◌%◌, ◌^◌, List, ◌≡◌, refl, sym, ap, ◌∙◌, subst, subst₂}
-use lib.Count.{ones, ones-le, count_trailing_zeros}
+use lib.Count.{ones-le, count_trailing_zeros}
 use Rattle.lists.specs.SetBits.{walk_start, walk-lowest, walk_turn, walk_end}
 use Rattle.layout.specs.Cells.{cell_on, page_cells}
 use Rattle.pages.specs.Noted.{Noted, noted-kept}

@@ -1,4 +1,4 @@
-use Rattle.std.proofs.Common.{arith, ◌<◌, ◌-◌, inl, refl, ◌∙◌}
+use Rattle.std.proofs.Common.{arith, ◌<◌, inl, refl, ◌∙◌}
 use Rattle.lists.specs.Part.{cut-here, through-start, through-turn, through-end}
 use Rattle.pages.specs.Pages.{regular-filled}
 use Rattle.copy.specs.Passing.{moves-passing}

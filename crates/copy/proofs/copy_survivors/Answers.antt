@@ -1,4 +1,4 @@
-use Rattle.std.proofs.Common.{arith, length, get_or, ℕ, ◌<◌, ◌+◌, ◌-◌, List, ◌≡◌, refl, sym, ap, ◌∙◌, subst, subst₂}
+use Rattle.std.proofs.Common.{arith, length, get_or, ℕ, ◌<◌, ◌+◌, List, ◌≡◌, refl, sym, ap, ◌∙◌, subst, subst₂}
 use Rattle.rules.specs.Regions.{region_at}
 use Rattle.laws.specs.RegionLaws.{region-bounds}
 use Rattle.layout.specs.Places.{regions-few}

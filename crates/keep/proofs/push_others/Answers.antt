@@ -1,4 +1,4 @@
-use Rattle.std.proofs.Common.{◌≡◌, refl, subst, ◌-◌, arith, length}
+use Rattle.std.proofs.Common.{◌≡◌, refl, subst, arith}
 use Rattle.layout.specs.Places.{cells_words}
 use Rattle.layout.specs.Cells.{head_at, first_on}
 use Rattle.mark.specs.Pushes.{Pushing, Pushing.none, pushing-kept}

@@ -1,6 +1,6 @@
-use Rattle.std.proofs.Common.{refl, ◌-◌, arith, length}
+use Rattle.std.proofs.Common.{refl, arith}
 use Rattle.mark.specs.Pushes.{Pushing.none, pushing-kept}
-use Rattle.keep.specs.Others.{other_cells, cells-few, cell-asks, cell-read, page-read}
+use Rattle.keep.specs.Others.{cells-few, cell-asks, cell-read, page-read}
 use Rattle.keep.proofs.push_page.Goals as goal
 
 pub other_cells-n-requires : goal.other_cells-n-requires

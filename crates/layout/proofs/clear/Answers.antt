@@ -1,4 +1,4 @@
-use Rattle.std.proofs.Common.{◌-◌, arith}
+use Rattle.std.proofs.Common.{arith}
 use Rattle.lists.specs.Zeros.{cleared-none, cleared_more, cleared-to}
 use Rattle.layout.proofs.clear.Goals as goal
 

@@ -1,4 +1,4 @@
-use Rattle.std.proofs.Common.{arith, ℕ, ◌≤◌, ◌-◌, ◌≡◌, sym, ◌∙◌, subst, inl, inr}
+use Rattle.std.proofs.Common.{arith, ℕ, ◌≤◌, ◌≡◌, sym, ◌∙◌, subst, inl, inr}
 use Rattle.layout.specs.Places.{used_of}
 use Rattle.pages.specs.Pages.{Fresh, fresh_start, fresh-next}
 use Rattle.pages.proofs.find_page.Goals as goal

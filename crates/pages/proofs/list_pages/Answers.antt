@@ -1,4 +1,4 @@
-use Rattle.std.proofs.Common.{arith, refl, sym, ap, ◌∙◌, length, length-set}
+use Rattle.std.proofs.Common.{arith, refl, sym, ap, ◌∙◌, length-set}
 use Rattle.rules.specs.Graph.{pages_of}
 use Rattle.layout.specs.Places.{count_of}
 use Rattle.pages.specs.Listing.{listing_start, listing-pos, listing-skip, listing-take, listing-end}

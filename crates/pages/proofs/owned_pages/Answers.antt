@@ -1,4 +1,4 @@
-use Rattle.std.proofs.Common.{◌-◌, ◌≡◌, refl, ap, ◌∙◌, arith}
+use Rattle.std.proofs.Common.{◌≡◌, refl, ap, ◌∙◌, arith}
 use Rattle.lists.specs.Counting.{sum_more}
 use Rattle.promises.specs.OwnedPages.{owned_one, owned_in, owned-le}
 use Rattle.pages.proofs.owned_pages.Goals as goal

@@ -1,4 +1,4 @@
-use Rattle.std.proofs.Common.{◌≡◌, ℕ, ◌-◌, List, sym, refl, ◌∙◌, subst, arith}
+use Rattle.std.proofs.Common.{◌≡◌, ℕ, List, sym, refl, ◌∙◌, subst, arith}
 use Rattle.lists.specs.Zeros.{cleared-to}
 use Rattle.lists.specs.Part.{through-start, through-turn, through-end}
 use Rattle.layout.specs.Places.{owner_of}

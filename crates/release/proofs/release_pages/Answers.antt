@@ -1,4 +1,4 @@
-use Rattle.std.proofs.Common.{◌≡◌, ℕ, ◌+◌, ◌-◌, List, set, sym, refl, ap, ◌∙◌, subst, arith}
+use Rattle.std.proofs.Common.{◌≡◌, ℕ, ◌+◌, List, set, sym, refl, ap, ◌∙◌, subst, arith}
 use Rattle.lists.specs.Part.{through-start, through-turn, through-end}
 use Rattle.layout.specs.Places.{used_at, mark_at, owner_of}
 use Rattle.copy.specs.Taking.{room-same}

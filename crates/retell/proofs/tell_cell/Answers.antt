@@ -1,6 +1,6 @@
-use Rattle.std.proofs.Common.{arith, ℕ, ◌<◌, ◌+◌, ◌-◌, List, ◌≢◌, ◌≡◌, refl, sym, ap, ◌∙◌, subst, subst₂}
+use Rattle.std.proofs.Common.{arith, ℕ, ◌<◌, ◌+◌, List, ◌≢◌, ◌≡◌, refl, sym, ap, ◌∙◌, subst, subst₂}
 use Rattle.layout.specs.Places.{owner_of}
-use Rattle.layout.specs.Cells.{head_at, field_at, field_count, refs_of, page_of, field-high}
+use Rattle.layout.specs.Cells.{head_at, field_at, field_count, refs_of, field-high}
 use Rattle.layout.specs.declared.Kind.TheVariants.{Reference}
 use Rattle.layout.specs.Objects.{begins-page}
 use Rattle.layout.specs.Words.{Names}

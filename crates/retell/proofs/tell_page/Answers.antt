@@ -1,5 +1,4 @@
-use Rattle.std.proofs.Common.{arith, ◌-◌, refl, ◌∙◌}
-use Rattle.layout.specs.Cells.{cell_on}
+use Rattle.std.proofs.Common.{arith, refl, ◌∙◌}
 use Rattle.remember.specs.Crossing.{cross_to}
 use Rattle.retell.specs.SlotStretches.{PageReadable, used-most, begins-here}
 use Rattle.retell.specs.Retelling.{told-start}

@@ -1,7 +1,7 @@
-use Rattle.std.proofs.Common.{arith, ℕ, ◌<◌, ◌+◌, ◌-◌, List, ◌≡◌, refl, sym, ap, ◌∙◌, subst}
+use Rattle.std.proofs.Common.{arith, ℕ, ◌<◌, ◌+◌, List, ◌≡◌, refl, sym, ap, ◌∙◌, subst}
 use mathlib.Core.Path.{subst₃}
 use Rattle.layout.specs.Places.{owner_of}
-use Rattle.layout.specs.Cells.{field_count, field_of, refs_of, page_of, most_fields, cell_in, field-high}
+use Rattle.layout.specs.Cells.{field_count, field_of, refs_of, most_fields, cell_in, field-high}
 use Rattle.layout.specs.declared.Kind.TheVariants.{Reference}
 use Rattle.layout.specs.Words.{Names}
 use Rattle.settle.specs.Rewrite.{forwarded}

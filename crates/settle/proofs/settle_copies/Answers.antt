@@ -1,4 +1,4 @@
-use Rattle.std.proofs.Common.{arith, ◌<◌, ◌-◌, refl, ◌∙◌}
+use Rattle.std.proofs.Common.{arith, ◌<◌, refl, ◌∙◌}
 use Rattle.lists.specs.Part.{cut-here, through-start, through-turn, through-end}
 use Rattle.settle.specs.RewriteCopies.{pages_split, second-wired}
 use Rattle.settle.specs.Settle.{settled-none, second-settling, second-settled, settled-skips}

@@ -1,5 +1,5 @@
 use Rattle.std.proofs.Common.{arith, ℕ, ◌-◌, ◌/◌, ◌^◌, ◌≢◌, ◌≡◌, refl, sym, ap, ◌∙◌}
-use lib.Count.{ones, ones-le, count_trailing_zeros}
+use lib.Count.{ones-le, count_trailing_zeros}
 use Rattle.lists.specs.Bits.{Lowest}
 use Rattle.lists.specs.SetBits.{walk_start, walk-lowest, walk_turn, walk_end}
 use Rattle.layout.specs.Cells.{work_of, cell_named, cell_on, page_of, page_cells, page-on, cell_in}

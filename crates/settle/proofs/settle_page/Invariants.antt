@@ -2,7 +2,6 @@
 use Rattle.std.proofs.Common.{length, ◌-◌, ◌≡◌}
 use lib.Count.{ones}
 use Rattle.lists.specs.SetBits.{Walked}
-use Rattle.copy.specs.Marks.{copied}
 use Rattle.settle.specs.RewriteCopies.{CopySlot, Passed}
 use Rattle.settle.specs.Settle.{Settled}
 use Rattle.settle.proofs.settle_page.Given as goal

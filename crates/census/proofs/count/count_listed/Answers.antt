@@ -1,4 +1,4 @@
-use Rattle.std.proofs.Common.{◌<◌, ◌+◌, ◌-◌, refl, ◌∙◌, arith}
+use Rattle.std.proofs.Common.{◌<◌, ◌+◌, refl, ◌∙◌, arith}
 use Rattle.lists.specs.Part.{cut-here, through-start, through-turn, through-end}
 use Rattle.layout.specs.Cells.{cell_on}
 use Rattle.census.specs.Counted.{marked-on}

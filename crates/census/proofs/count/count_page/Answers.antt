@@ -1,4 +1,4 @@
-use Rattle.std.proofs.Common.{ℕ, ◌≤◌, ◌<◌, ◌+◌, ◌-◌, ◌≡◌, refl, sym, ap, ◌∙◌, subst, arith, zero-add, length}
+use Rattle.std.proofs.Common.{ℕ, ◌≤◌, ◌<◌, ◌+◌, ◌≡◌, refl, sym, ap, ◌∙◌, subst, arith, zero-add, length}
 use lib.Count.{ones, ones-le, count_trailing_zeros}
 use Rattle.layout.specs.Cells.{cell_on, work_of, most-words}
 use Rattle.layout.specs.Words.{Begins}

@@ -1,5 +1,5 @@
-use Rattle.std.proofs.Common.{◌-◌, ◌≡◌, refl, sym, ap, ap₂, ◌∙◌, subst, arith}
-use Rattle.lists.specs.Counting.{sum, sum_more}
+use Rattle.std.proofs.Common.{◌≡◌, refl, sym, ap, ap₂, ◌∙◌, subst, arith}
+use Rattle.lists.specs.Counting.{sum_more}
 use Rattle.layout.specs.declared.Kind.TheVariants.{Reference}
 use Rattle.layout.specs.Cells.{work_of, field_of, field_count, refs_of}
 use Rattle.layout.specs.Objects.{begins-page}

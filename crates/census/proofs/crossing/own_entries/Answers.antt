@@ -1,4 +1,4 @@
-use Rattle.std.proofs.Common.{ℕ, ◌-◌, ◌≤◌, ◌<◌, ◌≡◌, refl, ap, ◌∙◌, arith, get_or}
+use Rattle.std.proofs.Common.{ℕ, ◌≤◌, ◌<◌, ◌≡◌, refl, ap, ◌∙◌, arith, get_or}
 use Rattle.lists.specs.Counting.{sum_more}
 use Rattle.census.specs.OnPages.{slots_on, slots_listed, slots-few, listed-few}
 use Rattle.census.proofs.crossing.own_entries.Goals as goal

@@ -1,4 +1,4 @@
-use Rattle.std.proofs.Common.{◌<◌, ◌+◌, ◌-◌, ◌≡◌, arith}
+use Rattle.std.proofs.Common.{◌<◌, ◌+◌, ◌≡◌, arith}
 use lib.Count.{ones}
 use Rattle.lists.specs.Part.{cut-here, through-start, through-turn, through-end}
 use Rattle.census.specs.Survivors.{survivors_in, survivors-few, survivors-more, survivors-skip}

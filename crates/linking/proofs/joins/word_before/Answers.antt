@@ -1,4 +1,4 @@
-use Rattle.std.proofs.Common.{◌-◌, ◌<◌, arith}
+use Rattle.std.proofs.Common.{◌<◌, arith}
 use Rattle.linking.specs.Joining.{walk-starts, walk-goes-on, walk_ends}
 use Rattle.linking.proofs.joins.word_before.Goals as goal
 

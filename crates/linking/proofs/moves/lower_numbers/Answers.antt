@@ -1,4 +1,4 @@
-use Rattle.std.proofs.Common.{ℕ, ◌-◌, arith, ◌≡◌, refl, subst}
+use Rattle.std.proofs.Common.{ℕ, arith, ◌≡◌, refl, subst}
 use Rattle.linking.specs.Shifting.{lowered}
 use Rattle.linking.specs.Moving.{Renumbered, renumbered-none, renumbered-more}
 use Rattle.linking.proofs.moves.lower_numbers.Goals as goal

@@ -1,4 +1,4 @@
-use Rattle.std.proofs.Common.{ℕ, ◌-◌, arith, ◌≡◌, refl, subst}
+use Rattle.std.proofs.Common.{ℕ, arith, ◌≡◌, refl, subst}
 use Rattle.linking.specs.Shifting.{lowered}
 use Rattle.linking.specs.Moving.{MovedDown, down-none, down-more}
 use Rattle.linking.proofs.moves.move_down.Goals as goal

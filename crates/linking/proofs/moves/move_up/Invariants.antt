@@ -1,5 +1,5 @@
 -- The words above i, up to `to`, are those below them, renumbered; nothing else is changed.
-use Rattle.std.proofs.Common.{◌-◌, ◌≤◌, length, ◌≡◌}
+use Rattle.std.proofs.Common.{◌≤◌, length, ◌≡◌}
 use Rattle.linking.specs.Shifting.{raised}
 use Rattle.linking.specs.Moving.{MovedUp}
 use Rattle.linking.proofs.moves.move_up.Given as goal

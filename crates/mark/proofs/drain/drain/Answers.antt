@@ -1,4 +1,4 @@
-use Rattle.std.proofs.Common.{refl, sym, ◌∙◌, ◌-◌, arith, length}
+use Rattle.std.proofs.Common.{refl, sym, ◌∙◌, arith}
 use Rattle.mark.specs.Draining.{turn_facts, turn-asks, turn-read, drained}
 use Rattle.mark.proofs.drain.drain.Goals as goal
 

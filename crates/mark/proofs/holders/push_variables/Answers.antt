@@ -1,4 +1,4 @@
-use Rattle.std.proofs.Common.{◌≡◌, refl, ◌∙◌, subst, ℕ, ◌≤◌, ◌<◌, ◌+◌, ◌-◌, arith, length, mul-le-mul}
+use Rattle.std.proofs.Common.{◌≡◌, refl, ◌∙◌, subst, ℕ, ◌≤◌, ◌<◌, ◌+◌, arith, mul-le-mul}
 use Rattle.mark.specs.Pushes.{Pushing, Pushing.none, pushing-nulls, pushing-kept, pushing-shaped, ref-read, push-read}
 use Rattle.rules.specs.declared.Sizes.{Sizes}
 use Rattle.layout.specs.Places.{Room, var_count}

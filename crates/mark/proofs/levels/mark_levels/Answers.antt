@@ -1,6 +1,5 @@
-use Rattle.std.proofs.Common.{◌≡◌, refl, ◌+◌, ◌-◌, arith, length}
+use Rattle.std.proofs.Common.{◌≡◌, refl, ◌+◌, ◌-◌, arith}
 use Rattle.lists.specs.Says.{says-no}
-use Rattle.rules.specs.Regions.{region_at}
 use Rattle.mark.specs.Draining.{says-popped, says-idle}
 use Rattle.mark.specs.Levels.{levels-start, levels-at}
 use Rattle.mark.specs.Holders.{held_refs}

@@ -1,4 +1,4 @@
-use Rattle.std.proofs.Common.{◌≡◌, refl, ap, ◌∙◌, subst, ℕ, ◌<◌, ◌-◌, arith, length}
+use Rattle.std.proofs.Common.{◌≡◌, refl, ap, ◌∙◌, subst, ℕ, ◌<◌, arith}
 use Rattle.layout.specs.declared.Kind.TheVariants.{Reference}
 use Rattle.layout.specs.Cells.{field_of, refs_of, field_count}
 use Rattle.layout.specs.Objects.{begins-page}

@@ -1,4 +1,4 @@
-use Rattle.std.proofs.Common.{◌<◌, ◌-◌, refl, sym, ◌∙◌, subst, arith, length}
+use Rattle.std.proofs.Common.{◌<◌, refl, sym, ◌∙◌, subst, arith}
 use Rattle.lists.specs.Part.{through-start, through-turn, through-end, cut-here}
 use Rattle.layout.specs.Places.{Room}
 use Rattle.mark.specs.Unmark.{unmark-start, unmark-word, unmark-turn, unmark-skips}

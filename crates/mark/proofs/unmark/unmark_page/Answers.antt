@@ -1,5 +1,5 @@
-use Rattle.std.proofs.Common.{◌-◌, refl, ap, ◌∙◌, arith, length}
-use lib.Count.{ones, ones-le, count_trailing_zeros}
+use Rattle.std.proofs.Common.{refl, ap, ◌∙◌, arith}
+use lib.Count.{ones-le, count_trailing_zeros}
 use Rattle.layout.specs.Cells.{cell_on}
 use Rattle.lists.specs.SetBits.{walk_start, walk-lowest}
 use Rattle.mark.specs.Unmark.{page-start, page-turn, page-end}

@@ -1,4 +1,4 @@
-use Rattle.std.proofs.Common.{arith, ℕ, ◌+◌, ◌-◌, List, refl, sym, subst}
+use Rattle.std.proofs.Common.{arith, ℕ, ◌+◌, List, refl, sym, subst}
 use Rattle.remember.specs.Stretches.{Cleared, clear-start, clear_next, clear-end}
 use Rattle.remember.proofs.entries.clear_entries.Goals as goal
 

@@ -1,5 +1,5 @@
 -- The place lies between `low` and `low + size`.
-use Rattle.std.proofs.Common.{◌+◌, ◌-◌, ◌≤◌, ◌<◌}
+use Rattle.std.proofs.Common.{◌+◌, ◌≤◌, ◌<◌}
 use Rattle.layout.specs.Places.{entries_used}
 use Rattle.remember.specs.Finding.{Between}
 use Rattle.remember.proofs.entries.find_entry.Given as goal

@@ -1,4 +1,4 @@
-use Rattle.std.proofs.Common.{arith, length, get_or, ℕ, ◌≤◌, ◌<◌, ◌+◌, ◌-◌, List, ⊎_elim, ◌≡◌, refl, sym, ap₂, ◌∙◌, subst, subst₂}
+use Rattle.std.proofs.Common.{arith, length, get_or, ℕ, ◌≤◌, ◌<◌, ◌+◌, List, ◌≡◌, refl, sym, ap₂, ◌∙◌, subst, subst₂}
 use Rattle.layout.specs.Places.{slot_in, slot_region_in}
 use Rattle.layout.specs.Words.{Names}
 use Rattle.remember.specs.Entries.{rising-once}

@@ -1,4 +1,4 @@
-use Rattle.std.proofs.Common.{ℕ, ◌-◌, arith, ◌≡◌, refl, subst}
+use Rattle.std.proofs.Common.{ℕ, arith, ◌≡◌, refl, subst}
 use Rattle.remember.specs.Shifts.{ShiftedDown, lowered_none, lowered-more}
 use Rattle.remember.proofs.shift.lower.Goals as goal
 

@@ -1,4 +1,4 @@
-use Rattle.std.proofs.Common.{arith, ℕ, ◌-◌, ◌≡◌, refl, ap, ◌∙◌, subst}
+use Rattle.std.proofs.Common.{arith, ℕ, ◌≡◌, refl, ap, ◌∙◌, subst}
 use Rattle.layout.specs.Cells.{field_count, refs_of}
 use Rattle.layout.specs.declared.Kind.TheVariants.{Reference}
 use Rattle.settle.specs.Rewrite.{forwarded, Rewritten, rewritten-none}

@@ -1,5 +1,4 @@
-use Rattle.std.proofs.Common.{arith, ◌-◌, refl, ◌∙◌}
-use Rattle.layout.specs.Cells.{cell_on}
+use Rattle.std.proofs.Common.{arith, refl, ◌∙◌}
 use Rattle.retell.specs.SlotStretches.{PageReadable, used-most}
 use Rattle.retell.specs.Forwarding.{forwarded-start, place-readable, place-forwarded, page-forwarded}
 use Rattle.retell.proofs.cells.rewrite_page.Goals as goal

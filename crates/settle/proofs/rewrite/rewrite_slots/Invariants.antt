@@ -1,5 +1,5 @@
 -- Along the chain: x leads to the first entry of the region from a place on, and the slots of its entries before that place are rewritten.
-use Rattle.std.proofs.Common.{length, ◌-◌, ◌≡◌}
+use Rattle.std.proofs.Common.{length, ◌≡◌}
 use Rattle.chains.specs.Walking.{ahead}
 use Rattle.settle.specs.RewriteSlots.{Along}
 use Rattle.settle.proofs.rewrite.rewrite_slots.Given as goal

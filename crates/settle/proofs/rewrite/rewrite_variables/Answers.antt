@@ -1,4 +1,4 @@
-use Rattle.std.proofs.Common.{arith, ℕ, ◌<◌, ◌+◌, ◌-◌, List, ◌≡◌, refl, sym, ap, ◌∙◌, subst, mul-le-mul}
+use Rattle.std.proofs.Common.{arith, ℕ, ◌<◌, ◌+◌, List, ◌≡◌, refl, sym, ap, ◌∙◌, subst, mul-le-mul}
 use Rattle.layout.specs.Places.{var_count, var_of}
 use Rattle.layout.specs.Cells.{cell_in}
 use Rattle.copy.specs.Taking.{room-same}

@@ -1,4 +1,4 @@
-use Rattle.std.proofs.Common.{arith, ℕ, ◌-◌, ◌*◌, ◌<◌, ◌≡◌, sym, ap, ◌∙◌, subst}
+use Rattle.std.proofs.Common.{arith, ℕ, ◌*◌, ◌<◌, ◌≡◌, sym, ap, ◌∙◌, subst}
 use Rattle.layout.specs.Cells.{page_at, cell_words, first_on}
 use Rattle.remember.specs.Finding.{Between, found}
 use Rattle.settle.specs.Touched.{own-from, own-none}

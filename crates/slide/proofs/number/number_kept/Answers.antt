@@ -1,4 +1,4 @@
-use Rattle.std.proofs.Common.{◌-◌, ◌<◌, refl, ◌∙◌, arith}
+use Rattle.std.proofs.Common.{◌<◌, refl, ◌∙◌, arith}
 use Rattle.lists.specs.Part.{cut-here, through-start, through-turn, through-end}
 use Rattle.slide.specs.Numbered.{NumberedTo, numbered-all, number-start, number-skips, number-turn}
 use Rattle.slide.proofs.number.number_kept.Goals as goal

@@ -1,4 +1,4 @@
-use Rattle.std.proofs.Common.{ℕ, ◌-◌, refl, ◌∙◌, arith, get_or}
+use Rattle.std.proofs.Common.{ℕ, refl, ◌∙◌, arith, get_or}
 use Rattle.lists.specs.Part.{cut-here, through-start, through-turn, through-end}
 use Rattle.slide.specs.Slid.{SlidTo, slid-none, slid-all, named-after, slide-skips, slide-turn}
 use Rattle.slide.proofs.slide.slide_kept.Goals as goal

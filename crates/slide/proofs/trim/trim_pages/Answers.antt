@@ -1,4 +1,4 @@
-use Rattle.std.proofs.Common.{ℕ, ◌-◌, ◌≤◌, ◌<◌, min, ◌≡◌, refl, sym, ap, ◌∙◌, subst, arith}
+use Rattle.std.proofs.Common.{ℕ, ◌≤◌, ◌<◌, min, ◌≡◌, refl, sym, ap, ◌∙◌, subst, arith}
 use Rattle.layout.specs.Cells.{page_cells}
 use Rattle.layout.specs.Places.{Room, used_of}
 use Rattle.slide.specs.Trimmed.{Trimmed, left_for, trim_start, trim-used, trim-turn}

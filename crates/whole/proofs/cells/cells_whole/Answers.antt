@@ -1,6 +1,5 @@
-use Rattle.std.proofs.Common.{◌≡◌, ℕ, ◌+◌, ◌-◌, true, false, sym, refl, ap, ◌∙◌, subst, ⊎_elim, not-suc-le-zero, arith, below_more}
+use Rattle.std.proofs.Common.{◌≡◌, ℕ, ◌+◌, sym, refl, ap, ◌∙◌, subst, not-suc-le-zero, arith, below_more}
 use Rattle.lists.specs.Says.{true-not-false, says-no, said-no}
-use borrow.Author.Tests.{not-true, not-false}
 use Rattle.layout.specs.declared.Kind.TheVariants.{Reference, Number}
 use Rattle.layout.specs.Places.{cells_words}
 use Rattle.layout.specs.Cells.{head_at, field_at, cell_on, field_count, count_low, most-is}

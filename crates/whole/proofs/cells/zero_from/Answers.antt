@@ -1,4 +1,4 @@
-use Rattle.std.proofs.Common.{◌≡◌, ℕ, ◌+◌, ◌-◌, ◌<◌, ◌≤◌, sym, ◌∙◌, arith, below_more}
+use Rattle.std.proofs.Common.{◌≡◌, ℕ, ◌+◌, ◌<◌, ◌≤◌, sym, ◌∙◌, arith, below_more}
 use Rattle.lists.specs.Says.{says-yes, says-no}
 use Rattle.layout.specs.Cells.{field_of, most-is}
 use Rattle.whole.proofs.cells.zero_from.Goals as goal

@@ -1,4 +1,4 @@
-use Rattle.std.proofs.Common.{◌+◌, ◌-◌, arith}
+use Rattle.std.proofs.Common.{◌+◌, arith}
 use Rattle.lists.specs.Says.{says-no, said-no}
 use Rattle.remember.specs.Entries.{ZeroBetween}
 use Rattle.whole.specs.Entries.{zero-on}

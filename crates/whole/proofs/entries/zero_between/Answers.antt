@@ -1,4 +1,4 @@
-use Rattle.std.proofs.Common.{◌-◌, sym, ◌∙◌, arith, below_more}
+use Rattle.std.proofs.Common.{sym, ◌∙◌, arith, below_more}
 use Rattle.lists.specs.Says.{says-yes, says-no}
 use Rattle.whole.proofs.entries.zero_between.Goals as goal
 

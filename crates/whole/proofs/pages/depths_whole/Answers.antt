@@ -1,4 +1,4 @@
-use Rattle.std.proofs.Common.{◌-◌, not-suc-le-zero, arith, below_more}
+use Rattle.std.proofs.Common.{not-suc-le-zero, arith, below_more}
 use Rattle.lists.specs.Says.{says-yes, says-no}
 use Rattle.whole.proofs.pages.depths_whole.Goals as goal
 

@@ -1,4 +1,4 @@
-use Rattle.std.proofs.Common.{◌≡◌, ℕ, ◌+◌, ◌-◌, Bool, List, length, sym, refl, ap, ◌∙◌, subst₂, ⊎_elim, not-suc-le-zero, arith, below_more}
+use Rattle.std.proofs.Common.{◌≡◌, ℕ, ◌+◌, Bool, List, length, sym, refl, ap, ◌∙◌, subst₂, not-suc-le-zero, arith, below_more}
 use Rattle.lists.specs.Says.{says-yes, says-no, said-no}
 use Rattle.layout.specs.Places.{regions-few}
 use Rattle.lists.specs.Counting.{sum}

@@ -1,4 +1,4 @@
-use Rattle.std.proofs.Common.{◌-◌, not-suc-le-zero, arith, below_more}
+use Rattle.std.proofs.Common.{not-suc-le-zero, arith, below_more}
 use Rattle.lists.specs.Says.{says-yes, says-no, said-no}
 use Rattle.whole.specs.ZeroCells.{all-unused, unused-on}
 use Rattle.whole.proofs.unused.unused_whole.Goals as goal

@@ -1,4 +1,4 @@
-use Rattle.std.proofs.Common.{◌-◌, arith, eq-eqb, eqb-true}
+use Rattle.std.proofs.Common.{arith, eq-eqb, eqb-true}
 use Rattle.whole.specs.ZeroCells.{joined-none, joined-more}
 use Rattle.whole.proofs.unused.zero_cell.Goals as goal
 

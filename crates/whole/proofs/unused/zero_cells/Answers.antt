@@ -1,4 +1,4 @@
-use Rattle.std.proofs.Common.{ℕ, ◌-◌, sym, subst, arith, below_more}
+use Rattle.std.proofs.Common.{ℕ, sym, subst, arith, below_more}
 use Rattle.lists.specs.Says.{says-yes, says-no, said-no}
 use Rattle.layout.specs.Cells.{cell_on}
 use Rattle.whole.specs.ZeroCells.{ZeroCell}

@@ -1,4 +1,4 @@
-use Rattle.std.proofs.Common.{◌-◌, sym, subst, not-suc-le-zero, arith, below_more}
+use Rattle.std.proofs.Common.{sym, subst, not-suc-le-zero, arith, below_more}
 use Rattle.lists.specs.Says.{says-yes, says-no, said-no}
 use Rattle.promises.specs.Whole.{IsRef}
 use Rattle.whole.proofs.variables.variables_whole.Goals as goal
