@@ -23,7 +23,7 @@ use Rattle.remember.specs.Crossing.{cross_to}
 use Rattle.remember.specs.Crosses.{cross-slot}
 use Rattle.promises.specs.Reading.{refs-few, words-closed}
 use Rattle.promises.specs.Crossings.{entries-crossing}
-use Rattle.promises.specs.OwnedPages.{counted-objects}
+use Rattle.promises.proofs.OwnedPages.{counted-objects}
 use Rattle.promises.specs.Promises.{DidHere}
 use Rattle.promises.specs.Ends.{Lives}
 use Rattle.census.specs.Counted.{over-cells}

@@ -13,10 +13,11 @@ use Rattle.layout.specs.Words.{Words, Names, owner_in, ref_count}
 use Rattle.chains.specs.Chains.{Chainable}
 use Rattle.promises.specs.Whole.{WholeFor}
 use Rattle.promises.specs.Promises.{DidHere}
-use Rattle.promises.specs.WholeChains.{whole-chainable}
+use Rattle.promises.proofs.WholeChains.{whole-chainable}
 use Rattle.promises.specs.Reading.{refs-few, ref-room, whole_room}
 use Rattle.mark.specs.Survivors.{Marked}
-use Rattle.promises.specs.OwnedPages.{owned_in, counts-owned}
+use Rattle.promises.specs.OwnedPages.{owned_in}
+use Rattle.promises.proofs.OwnedPages.{counts-owned}
 use Rattle.mark.specs.MarkedWords.{owner-same, var-same, unlisted}
 use Rattle.pages.specs.Noted.{Noted, noted-kept, none-freed}
 use Rattle.release.specs.Notes.{noted, NoteLowered, lowered}

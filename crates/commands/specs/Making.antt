@@ -16,19 +16,19 @@ use Rattle.layout.specs.Cells.{head_at, cell_on, page_cells, head_word, most_fie
 use Rattle.layout.specs.Words.{Words, words, heap_of}
 use Rattle.promises.specs.Whole.{WholeFor, Open}
 use Rattle.promises.specs.Regular.{whole-regular}
-use Rattle.promises.specs.OwnedPages.{count_fits}
+use Rattle.promises.proofs.OwnedPages.{count_fits}
 use Rattle.promises.specs.Reading.{cell_in}
 use Rattle.promises.specs.Agreed.{heap-stands}
-use Rattle.promises.specs.Here.{here-depth}
-use Rattle.promises.specs.Questions.{did-refused, did-moved}
-use Rattle.promises.specs.NewPages.{innermost-pos, innermost-low, innermost-open, PartlyFilled, FreePage, new-fits, new-lacks}
+use Rattle.promises.proofs.Here.{here-depth}
+use Rattle.promises.proofs.Questions.{did-refused, did-moved}
+use Rattle.promises.proofs.NewPages.{innermost-pos, innermost-low, innermost-open, PartlyFilled, FreePage, new-fits, new-lacks}
 use Rattle.promises.specs.Changes.{with_tables, with_variable, with_new}
 use Rattle.promises.specs.Areas.{beyond-both}
-use Rattle.promises.specs.TakeCell.{Took, took-made}
-use Rattle.promises.specs.NewCell.{Blank, blanked, new-only, new-whole}
-use Rattle.promises.specs.FrameVariable.{variable-only}
-use Rattle.promises.specs.FrameNew.{Takes, blank_object, made-stands, to-old, with_cell}
-use Rattle.promises.specs.TakenPage.{took-takes}
+use Rattle.promises.proofs.TakeCell.{Took, took-made}
+use Rattle.promises.proofs.NewCell.{Blank, blanked, new-only, new-whole}
+use Rattle.promises.proofs.FrameVariable.{variable-only}
+use Rattle.promises.proofs.FrameNew.{Takes, blank_object, made-stands, to-old, with_cell}
+use Rattle.promises.proofs.TakenPage.{took-takes}
 use Rattle.pages.specs.Pages.{Filled, regular-filled, Found, taken}
 use Rattle.pages.specs.Noted.{Noted, noted-kept, none-freed-before, took-none-freed}
 use Rattle.pages.specs.Took.{found-room, taken-took}

@@ -8,7 +8,7 @@ use Rattle.rules.specs.Terms.{refused, done}
 use Rattle.layout.specs.Words.{Words, words, heap_of}
 use Rattle.promises.specs.Whole.{WholeFor}
 use Rattle.promises.specs.Promises.{DidHere}
-use Rattle.promises.specs.Questions.{did-answer, did-asked}
+use Rattle.promises.proofs.Questions.{did-answer, did-asked}
 use Rattle.commands.specs.declared.Decoded.{Decoded}
 use Rattle.commands.specs.declared.Decoded.TheVariants.{End, Collect, Refused}
 use Rattle.commands.specs.declared.Obeyed.{Obeyed}

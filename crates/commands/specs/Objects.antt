@@ -17,10 +17,10 @@ use Rattle.layout.specs.Words.{Words, words, heap_of, BeginsIn, ref_count}
 use Rattle.promises.specs.Whole.{WholeFor, IsRef}
 use Rattle.promises.specs.Reading.{used-alive, cell_in}
 use Rattle.promises.specs.Agreed.{heap-stands, back}
-use Rattle.promises.specs.Here.{here-var}
-use Rattle.promises.specs.Questions.{did-asked, did-done, question-fine, fields_of, var-ref, asked-field, field-word}
+use Rattle.promises.proofs.Here.{here-var}
+use Rattle.promises.proofs.Questions.{did-asked, did-done, question-fine, fields_of, var-ref, asked-field, field-word}
 use Rattle.promises.specs.Changes.{with_cells, with_variable, with_object, with_field}
-use Rattle.promises.specs.FrameNumber.{number-stands, number-only}
+use Rattle.promises.proofs.FrameNumber.{number-stands, number-only}
 use Rattle.commands.specs.declared.Decoded.TheVariants.{Load, Read, Write}
 use Rattle.commands.specs.Decoding.{command_for}
 use Rattle.commands.specs.ThreadVariables.{variable, variable_at}

@@ -26,19 +26,19 @@ use Rattle.chains.specs.Chains.{Chainable}
 use Rattle.promises.specs.Whole.{WholeFor}
 use Rattle.promises.specs.Reading.{used-alive, whole_room}
 use Rattle.promises.specs.Agreed.{heap-stands, back}
-use Rattle.promises.specs.Here.{here-var}
-use Rattle.promises.specs.Questions.{did-asked, did-lacked, did-done, room-crossing}
+use Rattle.promises.proofs.Here.{here-var}
+use Rattle.promises.proofs.Questions.{did-asked, did-lacked, did-done, room-crossing}
 use Rattle.promises.specs.Changes.{with_object, with_field, renamed-same}
 use Rattle.remember.specs.Remembering.{Remembered, remembered-full}
-use Rattle.promises.specs.FrameReference.{stored_words, Followed, reference-named, reference-unnamed, reference-only, reference-stands, reference-fits, reference-full}
+use Rattle.promises.proofs.FrameReference.{stored_words, Followed, reference-named, reference-unnamed, reference-only, reference-stands, reference-fits, reference-full}
 use Rattle.commands.specs.declared.Decoded.TheVariants.{Store}
 use Rattle.commands.specs.Decoding.{command_for}
 use Rattle.commands.specs.ThreadVariables.{variable}
 use Rattle.commands.specs.Does.{Does}
 use Rattle.commands.specs.Objects.{is-ref, asked_is, within, in_use, is_field, heap-var}
 use Rattle.commands.specs.Fields.{Field}
-use Rattle.promises.specs.OwnedPages.{owner-low}
-use Rattle.promises.specs.WholeChains.{other-low, whole-chainable}
+use Rattle.promises.proofs.OwnedPages.{owner-low}
+use Rattle.promises.proofs.WholeChains.{other-low, whole-chainable}
 
 -- the slot of reference f of x's object
 abbrev pub slot_of : List ℕ → ℕ → ℕ → ℕ

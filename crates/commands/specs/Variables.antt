@@ -16,12 +16,12 @@ use Rattle.layout.specs.Words.{Words, words, heap_of}
 use Rattle.promises.specs.Whole.{WholeFor}
 use Rattle.promises.specs.Promises.{DidHere}
 use Rattle.promises.specs.Agreed.{heap-stands}
-use Rattle.promises.specs.Here.{here-depth, here-var}
-use Rattle.promises.specs.Questions.{FreesNone, did-asked, did-done, question-fine}
+use Rattle.promises.proofs.Here.{here-depth, here-var}
+use Rattle.promises.proofs.Questions.{FreesNone, did-asked, did-done, question-fine}
 use Rattle.promises.specs.Areas.{same-beyond}
 use Rattle.promises.specs.Changes.{with_tables, with_variable, with_depth, renamed-same}
-use Rattle.promises.specs.FrameVariable.{variable-stands, variable-only}
-use Rattle.promises.specs.FrameDepth.{depth-stands, depth-only, raised-open}
+use Rattle.promises.proofs.FrameVariable.{variable-stands, variable-only}
+use Rattle.promises.proofs.FrameDepth.{depth-stands, depth-only, raised-open}
 use Rattle.commands.specs.declared.Decoded.TheVariants.{Start, Copy, Clear, Same}
 use Rattle.commands.specs.Decoding.{command_for}
 use Rattle.commands.specs.ThreadVariables.{variable, variable_at}

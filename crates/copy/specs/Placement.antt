@@ -16,7 +16,7 @@ use Rattle.layout.specs.Marks.{marked, mark?}
 use Rattle.layout.specs.Objects.{Begins, begins-page, cell_count}
 use Rattle.layout.specs.Words.{pages_at}
 use Rattle.promises.specs.Regular.{pages-alike}
-use Rattle.promises.specs.TakenPage.{took-takes}
+use Rattle.promises.proofs.TakenPage.{took-takes}
 use Rattle.copy.specs.Moves.{Step, mid-pages, step-on, step-link, step_keeps}
 use Rattle.copy.specs.Passing.{Ready, Moves, Moves.none, Moves.more, order, moves-back}
 use Rattle.copy.specs.Copying.{Plan, Copy, copy-clean}

@@ -9,8 +9,9 @@ use Rattle.layout.specs.Places.{Room, owner_of, used_of}
 use Rattle.layout.specs.Cells.{page_of, place_of, page_cells}
 use Rattle.promises.specs.Whole.{Partial, objects_of}
 use Rattle.promises.specs.Regular.{Regular}
-use Rattle.promises.specs.OwnedPages.{owned_one, owned_in, owned-yes, owned-no, owned-is, owned-same, owned, some-partly}
-use Rattle.promises.specs.TakeCell.{Source, Took, page-past, took-regular}
+use Rattle.promises.specs.OwnedPages.{owned_one, owned_in, owned-yes, owned-no, owned-is, owned-same}
+use Rattle.promises.proofs.OwnedPages.{owned, some-partly}
+use Rattle.promises.proofs.TakeCell.{Source, Took, page-past, took-regular}
 use Rattle.pages.specs.Pages.{Found}
 
 -- g has a page with room, or there is a free page

@@ -24,7 +24,7 @@ use Rattle.promises.specs.Promises.{DidHere}
 use Rattle.promises.specs.Reading.{used-home}
 use Rattle.promises.specs.Agreed.{targets-agree, cell-used}
 use Rattle.promises.specs.WordsOf.{laid}
-use Rattle.promises.specs.Laid.{whole-laid}
+use Rattle.promises.proofs.Laid.{whole-laid}
 use Rattle.ended.specs.CollectedDid.{collect_of, after-collect, collect-accepted}
 use Rattle.demand.specs.Compact.{Compact, collected-again}
 

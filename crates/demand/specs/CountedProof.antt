@@ -30,7 +30,7 @@ use Rattle.promises.specs.StandsFor.{StandsFor}
 use Rattle.promises.specs.Promises.{Became, Did, Chain, none, more, commands_in, answers_in, Ran, Prepared}
 use Rattle.promises.specs.Reading.{depth-at, words-closed}
 use Rattle.promises.specs.Agreed.{heap-stands, whole_words}
-use Rattle.promises.specs.Preparing.{prepared-is}
+use Rattle.promises.proofs.Preparing.{prepared-is}
 use Rattle.report.specs.Told.{told-counted}
 use Rattle.demand.specs.DemandThree.{Block, Runs, stop, next}
 use Rattle.demand.specs.Demand.{all_runs}

@@ -24,7 +24,7 @@ use Rattle.promises.specs.Slices.{Slices}
 use Rattle.promises.specs.StandsFor.{StandsFor}
 use Rattle.promises.specs.Promises.{Chain, none, more, commands_in, answers_in, size, RunAsked, not_whole, other_chains, uneven, short, accepted, Ran, Prepared}
 use Rattle.promises.specs.Agreed.{whole_words}
-use Rattle.promises.specs.Preparing.{prepared-is}
+use Rattle.promises.proofs.Preparing.{prepared-is}
 use Rattle.promises.specs.Chained.{chained}
 use Rattle.demand.specs.DemandThree.{Block, Runs, stop, next, refusal, Refusals, less, given, replies, Paired, Followed, Traced, DemandThree}
 use Rattle.demand.specs.Pairing.{pairs_of, stands-paired}

@@ -12,7 +12,7 @@ use Rattle.rules.specs.Regions.{region_at}
 use Rattle.rules.specs.Rules as ru
 use Rattle.laws.specs.RulesLaws.{region-pos, over}
 use Rattle.layout.specs.Words.{Words, depth_in, heap_of}
-use Rattle.promises.specs.Here.{here-depth}
+use Rattle.promises.proofs.Here.{here-depth}
 
 -- the command: code 2 of thread t
 abbrev pub end_of : ℕ → Command

@@ -22,7 +22,7 @@ use Rattle.promises.specs.Promises.{DidHere}
 use Rattle.promises.specs.Ends.{part_of, Lives}
 use Rattle.promises.specs.Reading.{alive-used, used-home, words-closed, length-depths, depth-at}
 use Rattle.promises.specs.Agreed.{home-at, heap-stands}
-use Rattle.promises.specs.Questions.{did-moved}
+use Rattle.promises.proofs.Questions.{did-moved}
 use Rattle.ended.specs.Evacuated.{Evacuated, FreedCounted, Packed}
 use Rattle.ended.specs.Living.{region-after, region-keeps}
 use Rattle.ended.specs.EvacuatedCounts.{counted-whole}

@@ -19,7 +19,7 @@ use Rattle.laws.specs.Counts.{landed, objects-ended}
 use Rattle.laws.specs.EndLaws.{home-went, home-stayed}
 use Rattle.layout.specs.Words.{Words, depth_in, home_in, graph_of}
 use Rattle.promises.specs.Whole.{WholeFor}
-use Rattle.promises.specs.OwnedPages.{counted-objects}
+use Rattle.promises.proofs.OwnedPages.{counted-objects}
 use Rattle.promises.specs.Arriving.{more_pages, region_more, more_below}
 use Rattle.ended.specs.WordsPlaced.{target-level}
 use Rattle.ended.specs.EndQuestion.{pages_needed}

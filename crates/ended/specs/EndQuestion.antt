@@ -19,9 +19,10 @@ use Rattle.promises.specs.StandsFor.{StandsFor}
 use Rattle.promises.specs.Promises.{DidHere}
 use Rattle.promises.specs.Reading.{words-closed}
 use Rattle.promises.specs.Agreed.{heap-stands}
-use Rattle.promises.specs.Here.{here-depth}
-use Rattle.promises.specs.Questions.{did-refused}
-use Rattle.promises.specs.OwnedPages.{pages_owned, heap-free}
+use Rattle.promises.proofs.Here.{here-depth}
+use Rattle.promises.proofs.Questions.{did-refused}
+use Rattle.promises.specs.OwnedPages.{pages_owned}
+use Rattle.promises.proofs.OwnedPages.{heap-free}
 use Rattle.ended.specs.AfterEnd.{end_of, after-end}
 
 -- the new pages for the regions that grow at the end of region r, and the slots that would cross afterwards

@@ -16,7 +16,7 @@ use Rattle.layout.specs.Objects.{begins-low}
 use Rattle.layout.specs.Words.{Words, owner_in, home_in, counters_in, graph_of, cell_count}
 use Rattle.promises.specs.Whole.{WholeFor, CountersWhole, live_of}
 use Rattle.promises.specs.Reading.{used-home, alive-used, used-owned}
-use Rattle.promises.specs.OwnedPages.{open-high, live-there, live-objects}
+use Rattle.promises.proofs.OwnedPages.{open-high, live-there, live-objects}
 use Rattle.promises.specs.Ends.{Part, part_of, Lives, lives-how}
 use Rattle.ended.specs.Evacuated.{Evacuated, FreedCounted}
 use Rattle.ended.specs.Living.{GraphAfter, lives-there, region-after}

@@ -21,7 +21,7 @@ use Rattle.promises.specs.Promises.{DidHere}
 use Rattle.promises.specs.Ends.{part_of, Lives}
 use Rattle.promises.specs.Reading.{alive-used, used-home, words-closed, length-depths, depth-at}
 use Rattle.promises.specs.Agreed.{home-at, heap-stands}
-use Rattle.promises.specs.Questions.{did-freed}
+use Rattle.promises.proofs.Questions.{did-freed}
 use Rattle.promises.specs.OwnedPages.{pages_owned}
 use Rattle.ended.specs.Evacuated.{Evacuated, Vacated, FreedCounted, Repacked}
 use Rattle.ended.specs.Living.{region-after, region-keeps}

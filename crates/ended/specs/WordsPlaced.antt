@@ -22,7 +22,7 @@ use Rattle.layout.specs.Words.{Words, depth_in, depths_in, owner_in, home_in, gr
 use Rattle.promises.specs.Whole.{WholeFor}
 use Rattle.promises.specs.Reading.{alive-used, used-home, used-owned, length-depths, depth-at}
 use Rattle.promises.specs.Agreed.{home-at, heap-stands, back, targets-agree}
-use Rattle.promises.specs.Here.{here-depth}
+use Rattle.promises.proofs.Here.{here-depth}
 
 module _ (s : Sizes) (w : Words) (whole : WholeFor s w) where
   depth_low : (t : ℕ) → get_or (depths_in s w) t 0 ≤ s.depth

@@ -11,8 +11,8 @@ use Rattle.layout.specs.Cells.{page_of, cell_on, page-on}
 use Rattle.layout.specs.Objects.{begins-page, begins-there}
 use Rattle.layout.specs.Words.{Words, owner_in}
 use Rattle.promises.specs.Ends.{part_of, Outside, Survivor, lives-how}
-use Rattle.promises.specs.OwnedPages.{owner-low}
-use Rattle.promises.specs.WholeChains.{whole-chainable}
+use Rattle.promises.proofs.OwnedPages.{owner-low}
+use Rattle.promises.proofs.WholeChains.{whole-chainable}
 use Rattle.chains.specs.Chains.{ChainsWhole}
 use Rattle.copy.specs.Copying.{Plan, Copy}
 use Rattle.settle.specs.Touched.{Chained}

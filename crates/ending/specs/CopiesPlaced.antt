@@ -19,7 +19,7 @@ use Rattle.promises.specs.Ends.{part_of, Outside, Survivor, Lives, lives-how}
 use Rattle.release.specs.Release.{Blank, Alike}
 use Rattle.ended.specs.Evacuated.{goal_in, copies_in}
 use Rattle.promises.specs.Regular.{pages-alike}
-use Rattle.promises.specs.TakenPage.{free-among}
+use Rattle.promises.proofs.TakenPage.{free-among}
 use Rattle.ended.specs.EndQuestion.{pages_needed}
 use Rattle.ending.specs.MarkedReady.{pages-same}
 use Rattle.ending.specs.PagesEnough.{free-same, needs-are}

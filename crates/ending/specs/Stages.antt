@@ -17,9 +17,9 @@ use Rattle.layout.specs.Words.{Words, words, Names, depth_in, owner_in, graph_of
 use Rattle.remember.specs.Crossing.{crosses_from}
 use Rattle.remember.specs.Staying.{Entries}
 use Rattle.promises.specs.Whole.{Open}
-use Rattle.promises.specs.NewPages.{level-open}
+use Rattle.promises.proofs.NewPages.{level-open}
 use Rattle.promises.specs.Regular.{pages-alike}
-use Rattle.promises.specs.OwnedPages.{counted-objects}
+use Rattle.promises.proofs.OwnedPages.{counted-objects}
 use Rattle.promises.specs.Reading.{refs-few}
 use Rattle.promises.specs.Ends.{part_of, Lives}
 use Rattle.copy.specs.Passing.{moves-ready}

@@ -12,7 +12,8 @@ use Rattle.layout.specs.Cells.{page_of}
 use Rattle.layout.specs.Objects.{begins-page}
 use Rattle.layout.specs.Words.{Words, words, heap_of}
 use Rattle.promises.specs.Promises.{DidHere}
-use Rattle.promises.specs.OwnedPages.{pages_owned, owner-low, counts-owned}
+use Rattle.promises.specs.OwnedPages.{pages_owned}
+use Rattle.promises.proofs.OwnedPages.{owner-low, counts-owned}
 use Rattle.promises.specs.Ends.{part_of}
 use Rattle.promises.specs.Arriving.{goes_to, arriving, more_below, more-none}
 use Rattle.pages.specs.Owned.{Paged}

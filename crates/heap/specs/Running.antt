@@ -11,7 +11,7 @@ use Rattle.chains.specs.LentChains.{chains-same, written-whole, written-again}
 use Rattle.promises.specs.Whole.{WholeFor}
 use Rattle.promises.specs.Slices.{Slices, slices, WholeSlices}
 use Rattle.promises.specs.Promises.{DidHere, command_at, size, RunAsked, Ran}
-use Rattle.promises.specs.Here.{did-anywhere}
+use Rattle.promises.proofs.Here.{did-anywhere}
 use Rattle.commands.specs.declared.Decoded.{Decoded}
 use Rattle.commands.specs.declared.Decoded.TheVariants.{End, Collect}
 use Rattle.commands.specs.declared.Obeyed.{Obeyed}

@@ -13,7 +13,7 @@ use Rattle.layout.specs.Places.{tables_words}
 use Rattle.promises.specs.Slices.{Slices}
 use Rattle.promises.specs.Promises as pr
 use Rattle.promises.specs.Promises.{LongEnough, PrepareAsked, out_of_range, short, Unused, Prepared}
-use Rattle.promises.specs.Preparing.{prepared-is}
+use Rattle.promises.proofs.Preparing.{prepared-is}
 use Rattle.script.specs.declared.Line.{Line}
 use Rattle.script.specs.declared.Line.TheVariants.{Numbers, Malformed}
 use Rattle.printed.specs.Printed.{sizes, between, accepted, running, stopped, takes}

@@ -14,7 +14,7 @@ use Rattle.layout.specs.Objects.{Slot, slot-word}
 use Rattle.layout.specs.Words.{words}
 use Rattle.remember.specs.Crosses.{cross-slot}
 use Rattle.promises.specs.Whole.{IsRef, VariablesWhole, RememberWhole}
-use Rattle.promises.specs.Frames.{variables-frame, remember-frame}
+use Rattle.promises.proofs.Frames.{variables-frame, remember-frame}
 use Rattle.mark.specs.Marks.{Shaped, Kept, kept-only, kept-owner}
 
 -- reference x of a holder that calls for q, or null if that is not g

@@ -9,7 +9,7 @@ use Rattle.layout.specs.Places.{owner_at, used_at, count_at, owner_of, used_of, 
 use Rattle.layout.specs.Cells.{page_cells, place_of}
 use Rattle.promises.specs.Whole.{Partial}
 use Rattle.promises.specs.Regular.{Regular}
-use Rattle.promises.specs.OwnedPages.{partly-filled}
+use Rattle.promises.proofs.OwnedPages.{partly-filled}
 
 -- the partly filled page of region g
 pub record Partly (p : Sizes) (t : List ℕ) (g page : ℕ) : Type 0 where

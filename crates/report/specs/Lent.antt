@@ -13,7 +13,7 @@ use Rattle.layout.specs.Words.{Words, sizes_in, heap_of}
 use Rattle.chains.specs.Chains.{ChainsWhole}
 use Rattle.promises.specs.Whole.{WholeWords}
 use Rattle.promises.specs.Slices.{Slices, WholeSlices}
-use Rattle.promises.specs.WholeChains.{read-other}
+use Rattle.promises.proofs.WholeChains.{read-other}
 use Rattle.promises.specs.Agreed.{heap_of-stands}
 use Rattle.promises.specs.Crossings.{heap-entries}
 use Rattle.report.specs.declared.Row.{Row}

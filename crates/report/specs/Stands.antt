@@ -14,7 +14,7 @@ use Rattle.layout.specs.Words.{words, depths_at}
 use Rattle.promises.specs.StandsFor.{StandsFor}
 use Rattle.promises.specs.Reading.{depth-at}
 use Rattle.promises.specs.Agreed.{objects-agree}
-use Rattle.promises.specs.OwnedPages.{counted-objects, heap-free}
+use Rattle.promises.proofs.OwnedPages.{counted-objects, heap-free}
 use Rattle.report.specs.Report.{is_open, open_regions, row_with, rows, total_of}
 use Rattle.report.specs.Passing.{map-passing}
 use Rattle.report.specs.Opened.{Turn, rows-counted, turn_level}

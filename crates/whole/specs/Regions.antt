@@ -11,7 +11,7 @@ use Rattle.rules.specs.declared.Sizes.{Sizes}
 use Rattle.layout.specs.Places.{Room, most_regions, regions-few, owner_of, used_of}
 use Rattle.layout.specs.Cells.{page_cells}
 use Rattle.promises.specs.Whole.{Partial, objects_on, OnePartial, CountsWhole}
-use Rattle.promises.specs.OwnedPages.{open-high}
+use Rattle.promises.proofs.OwnedPages.{open-high}
 use Rattle.promises.specs.Regular.{objects-yes, objects-no}
 use Rattle.layout.specs.Words.{tables_only}
 use Rattle.whole.specs.Pages.{PageChecked, PagesChecked}

@@ -1,6 +1,6 @@
 -- What is kept is marked, and the stages go on from there.
 use Rattle.std.proofs.Common.{arith}
-use Rattle.promises.specs.Questions.{did-answer}
+use Rattle.promises.proofs.Questions.{did-answer}
 use Rattle.layout.specs.Words.{words}
 use Rattle.collect.specs.Numbering.{Keeping}
 use Rattle.collect.specs.StagesAsk.{keeping, keeping-noted, collected-chainable}

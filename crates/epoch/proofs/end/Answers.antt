@@ -4,7 +4,7 @@ use Rattle.layout.specs.Places.{depth_of, mark_of}
 use Rattle.layout.specs.Words.{Words, words}
 use Rattle.chains.specs.LentChains.{chains-same}
 use Rattle.promises.specs.Reading.{whole_room}
-use Rattle.promises.specs.Questions.{did-answer}
+use Rattle.promises.proofs.Questions.{did-answer}
 use Rattle.mark.specs.Survivors.{none-survives}
 use Rattle.ending.specs.Ending.{Ending, ended_here}
 use Rattle.ended.specs.EndQuestion.{refused-shut}

@@ -2,7 +2,7 @@
 use Rattle.std.proofs.Common.{arith, sym, ap, ◌∙◌}
 use Rattle.lists.specs.Part.{lists-none}
 use Rattle.layout.specs.Places.{count_of}
-use Rattle.promises.specs.OwnedPages.{none_owned}
+use Rattle.promises.proofs.OwnedPages.{none_owned}
 use Rattle.ending.specs.Ending.{room-now}
 use Rattle.ending.specs.PagesEnough.{plan}
 use Rattle.ending.specs.Stages as st

@@ -1,5 +1,5 @@
 -- The region has as many pages as its count of objects says, so all of them are listed.
-use Rattle.promises.specs.OwnedPages.{counts-owned}
+use Rattle.promises.proofs.OwnedPages.{counts-owned}
 use Rattle.ending.specs.PagesEnough.{plan}
 use Rattle.ending.specs.Stages as st
 use Rattle.evacuate.proofs.list_and_free.Goals as goal

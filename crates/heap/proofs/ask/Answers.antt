@@ -3,7 +3,7 @@ use Rattle.std.proofs.Common.{refl, arith}
 use Rattle.lists.specs.Says.{said-no}
 use Rattle.promises.specs.Promises.{not_whole, other_chains, uneven, short, accepted}
 use Rattle.promises.specs.Reading.{sizes-there}
-use Rattle.promises.specs.WholeChains.{read-chainable, read-other, found-whole}
+use Rattle.promises.proofs.WholeChains.{read-chainable, read-other, found-whole}
 use Rattle.heap.proofs.ask.Goals as goal
 
 pub returns-then-not-whole : goal.returns-then-not-whole

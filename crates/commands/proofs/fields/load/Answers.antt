@@ -1,7 +1,7 @@
 -- Questions 9 and 10, then the variable gets the field's word.
 use Rattle.std.proofs.Common.{Bool, not, sym, ap, arith, eq-eqb, ne_eqb}
 use Rattle.layout.specs.declared.Kind.TheVariants.{Reference}
-use Rattle.promises.specs.Questions.{did-answer}
+use Rattle.promises.proofs.Questions.{did-answer}
 use Rattle.layout.specs.Words.{words}
 use Rattle.pages.specs.Noted.{none-freed-refl, none-freed-before}
 use Rattle.commands.specs.ThreadVariables.{variable_at, variable-low}

@@ -1,7 +1,7 @@
 -- Questions 9 and 10, then the field's word is stored.
 use Rattle.std.proofs.Common.{arith}
 use Rattle.layout.specs.declared.Kind.TheVariants.{Number}
-use Rattle.promises.specs.Questions.{did-answer}
+use Rattle.promises.proofs.Questions.{did-answer}
 use Rattle.layout.specs.Words.{words}
 use Rattle.promises.specs.Reading.{whole_room}
 use Rattle.commands.specs.Objects.{names-cell, is_field, write-refused, write_done}

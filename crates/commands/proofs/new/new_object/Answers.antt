@@ -1,6 +1,6 @@
 -- A page is found, its first unused cell taken and written, and the variable names it.
 use Rattle.std.proofs.Common.{ℕ, length, set, sym, ap, ◌∙◌, subst, arith}
-use Rattle.promises.specs.Questions.{did-answer}
+use Rattle.promises.proofs.Questions.{did-answer}
 use Rattle.layout.specs.Places.{Room}
 use Rattle.layout.specs.Cells.{head_at, CellIn}
 use Rattle.layout.specs.Words.{words}

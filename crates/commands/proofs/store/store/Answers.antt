@@ -1,7 +1,7 @@
 -- Questions 9 and 10, then the store and question 14.
 use Rattle.std.proofs.Common.{◌≡◌, ◌^◌, ◌<◌, length, ap, ◌∙◌, arith}
 use Rattle.rules.specs.Terms.{refused}
-use Rattle.promises.specs.Questions.{did-answer}
+use Rattle.promises.proofs.Questions.{did-answer}
 use Rattle.layout.specs.Words.{words}
 use Rattle.chains.specs.LentChains.{chains-same}
 use Rattle.promises.specs.Reading.{whole_room}

@@ -1,6 +1,6 @@
 -- A variable gets what another holds.
 use Rattle.std.proofs.Common.{arith}
-use Rattle.promises.specs.Questions.{did-answer}
+use Rattle.promises.proofs.Questions.{did-answer}
 use Rattle.layout.specs.Words.{words}
 use Rattle.pages.specs.Noted.{none-freed-before}
 use Rattle.commands.specs.ThreadVariables.{variable_at, variable-low}

@@ -1,6 +1,6 @@
 -- Two references are the same exactly if the words are.
 use Rattle.std.proofs.Common.{sym, ap, arith, eq-eqb, ne_eqb}
-use Rattle.promises.specs.Questions.{did-answer}
+use Rattle.promises.proofs.Questions.{did-answer}
 use Rattle.layout.specs.Words.{words}
 use Rattle.promises.specs.Reading.{whole_room}
 use Rattle.lists.specs.Counting.{bit}

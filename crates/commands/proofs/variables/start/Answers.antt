@@ -1,6 +1,6 @@
 -- The depth rises by one, if it is below D.
 use Rattle.std.proofs.Common.{arith}
-use Rattle.promises.specs.Questions.{did-answer}
+use Rattle.promises.proofs.Questions.{did-answer}
 use Rattle.layout.specs.Places.{depth_at, owners-is}
 use Rattle.layout.specs.Words.{words}
 use Rattle.pages.specs.Noted.{none-freed-refl, none-freed-before}

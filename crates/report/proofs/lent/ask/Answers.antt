@@ -3,7 +3,7 @@ use Rattle.std.proofs.Common.{sym, subst, arith}
 use Rattle.lists.specs.Says.{said-no}
 use Rattle.promises.specs.Slices.{slices}
 use Rattle.promises.specs.Reading.{sizes-there, entries-there}
-use Rattle.promises.specs.WholeChains.{read-chainable, found-whole}
+use Rattle.promises.proofs.WholeChains.{read-chainable, found-whole}
 use Rattle.report.specs.Tables.{whole-tables}
 use Rattle.report.specs.Stands.{rows_few}
 use Rattle.report.specs.Lent.{Asking, asking-not-whole, asking-other, asking-short, asking-all}

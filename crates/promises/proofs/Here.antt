@@ -15,7 +15,7 @@ use Rattle.promises.specs.StandsFor.{StandsFor}
 use Rattle.promises.specs.Promises.{Slides, Became, DidHere, Did}
 use Rattle.promises.specs.Reading.{var-at, depth-at, words-closed}
 use Rattle.promises.specs.Agreed.{home-at, object-at, partners-trans, heap-stands, there, cell-alive}
-use Rattle.promises.specs.Laid.{stands-laid}
+use Rattle.promises.proofs.Laid.{stands-laid}
 use Rattle.laws.specs.LikeCells.{Apart}
 use Rattle.laws.specs.LikeHeaps.{Like}
 use Rattle.laws.specs.LikeSteps.{step-like}

@@ -21,7 +21,7 @@ use Rattle.promises.specs.Agreed.{cell-used}
 use Rattle.promises.specs.Reading.{length-vars}
 use Rattle.promises.specs.Changes.{with_tables, with_variable}
 use Rattle.promises.specs.Areas.{variable_words, Only, store-only, starts}
-use Rattle.promises.specs.Frames.{still-whole, depths-frame, pages-frame, objects-frame, remember-frame, ref-frame, depths-same, home_same, counters-same, occupancy-same, stands-still}
+use Rattle.promises.proofs.Frames.{still-whole, depths-frame, pages-frame, objects-frame, remember-frame, ref-frame, depths-same, home_same, counters-same, occupancy-same, stands-still}
 
 -- a reference to an object that is there leads to an object's cell
 pub ref-to-cell : (s : Sizes) (w : Words) (h : Regioned) (cell_of : ℕ → ℕ) → StandsFor s w h cell_of → (u v : ℕ) → v ≡ renamed cell_of u

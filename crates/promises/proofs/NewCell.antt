@@ -18,11 +18,11 @@ use Rattle.remember.specs.Crossing.{other, region_of, crosses_to, crosses_at, cr
 use Rattle.promises.specs.Whole.{WholeFor, Open, IsRef, ObjectWhole, live_of}
 use Rattle.promises.specs.Changes.{with_cells}
 use Rattle.promises.specs.Areas.{variable_words, owner_words, used_words, count_words, made_words, freed_words, work_words, field_words, unused_words, Only, only-trans, cells-only}
-use Rattle.promises.specs.Frames.{sized-frame, depths-frame, marks-frame, object-frame}
+use Rattle.promises.proofs.Frames.{sized-frame, depths-frame, marks-frame, object-frame}
 use Rattle.remember.specs.Entries.{exact-everywhere}
 use Rattle.promises.specs.Slots.{region-of, slot-stays, cross-same}
 use Rattle.promises.specs.Regular.{whole-regular}
-use Rattle.promises.specs.TakeCell.{Took, took-only, took-used, took-unused, took-not-in-use, took-covers, still-used, used-split, owner-used, took-live, took-regular, took-pages}
+use Rattle.promises.proofs.TakeCell.{Took, took-only, took-used, took-unused, took-not-in-use, took-covers, still-used, used-split, owner-used, took-live, took-regular, took-pages}
 
 -- the words of a new object, the first of them given, and all others as they were
 pub record Blank (c : List ℕ) (cell word : ℕ) (c' : List ℕ) : Type 0 where

@@ -26,7 +26,7 @@ use Rattle.promises.specs.StandsFor.{StandsFor}
 use Rattle.promises.specs.Agreed.{cell-used}
 use Rattle.promises.specs.Changes.{with_cells, with_object}
 use Rattle.promises.specs.Areas.{field_words, entry_words, Only, only-trans, cells-only, entries-only}
-use Rattle.promises.specs.Frames.{still-whole, depths-frame, pages-frame, variables-frame, begins-was, ref-frame, home_same, stands-still}
+use Rattle.promises.proofs.Frames.{still-whole, depths-frame, pages-frame, variables-frame, begins-was, ref-frame, home_same, stands-still}
 
 module _ (s : Sizes) (w : Words) (k : WholeFor s w) (y j v : ℕ) (u : BeginsIn s w y) (low : j < all_fields (head_in w y)) where
   abbrev C : List ℕ

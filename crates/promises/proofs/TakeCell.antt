@@ -16,7 +16,7 @@ use Rattle.promises.specs.Whole.{Open, PageFilled, Partial, objects_on, objects_
 use Rattle.promises.specs.Regular.{Regular, whole-regular, one, objects-yes, objects-no, SamePage, filled-same, partial-same, on_same}
 use Rattle.promises.specs.Changes.{with_tables}
 use Rattle.promises.specs.Areas.{owner_words, used_words, count_words, made_words, Only, among-both, arrays-apart, tables-only, starts}
-use Rattle.promises.specs.Frames.{open-frame}
+use Rattle.promises.proofs.Frames.{open-frame}
 
 -- the page is the region's, or it was the highest-numbered free one and the region had none that is partly filled
 abbrev pub Source : Sizes → List ℕ → ℕ → ℕ → Type 0

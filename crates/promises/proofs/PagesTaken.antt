@@ -16,7 +16,8 @@ use Rattle.promises.specs.Whole.{WholeFor}
 use Rattle.promises.specs.StandsFor.{StandsFor}
 use Rattle.promises.specs.Promises.{DidHere}
 use Rattle.promises.specs.Agreed.{heap-stands, objects-agree}
-use Rattle.promises.specs.OwnedPages.{owned_one, pages_owned, region-pages, owner-low}
+use Rattle.promises.specs.OwnedPages.{owned_one, pages_owned}
+use Rattle.promises.proofs.OwnedPages.{region-pages, owner-low}
 
 -- the pages that the objects of each region fill, and of all regions
 abbrev filled_by : Graph → ℕ → ℕ

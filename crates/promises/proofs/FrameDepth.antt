@@ -14,7 +14,7 @@ use Rattle.promises.specs.Whole.{WholeFor, Open}
 use Rattle.promises.specs.StandsFor.{StandsFor}
 use Rattle.promises.specs.Changes.{with_tables, with_depth}
 use Rattle.promises.specs.Areas.{depth_words, Only, store-only}
-use Rattle.promises.specs.Frames.{still-whole, pages-open, variables-frame, objects-frame, remember-frame, vars-same, home_same, counters-same, occupancy-same, stands-still}
+use Rattle.promises.proofs.Frames.{still-whole, pages-open, variables-frame, objects-frame, remember-frame, vars-same, home_same, counters-same, occupancy-same, stands-still}
 
 module _ (s : Sizes) (w : Words) (k : WholeFor s w) (t d : ℕ) (l : t < s.threads) where
   abbrev T : List ℕ

@@ -13,7 +13,7 @@ use Rattle.remember.specs.Crossing.{other, region_of, cross_to}
 use Rattle.chains.specs.Chains.{Chainable, ChainsWhole}
 use Rattle.promises.specs.Whole.{WholeFor, WholeWords}
 use Rattle.promises.specs.Slices.{slices, WholeSlices}
-use Rattle.promises.specs.OwnedPages.{owner-low}
+use Rattle.promises.proofs.OwnedPages.{owner-low}
 
 cond-low : {x y n : ℕ} (b : Bool) → x ≤ n → y ≤ n → cond b x y ≤ n
 cond-low true l h = l

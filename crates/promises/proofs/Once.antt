@@ -25,8 +25,8 @@ use Rattle.promises.specs.Promises.{Chain, none, more, commands_in, answers_in, 
 use Rattle.promises.specs.Agreed.{heap-stands}
 use Rattle.promises.specs.Areas.{same-beyond, beyond-both, starts}
 use Rattle.promises.specs.Chained.{Chained, chained, asked-whole}
-use Rattle.promises.specs.Laid.{stands-laid, entries-are}
-use Rattle.promises.specs.Preparing.{PreparedIs, prepared-is}
+use Rattle.promises.proofs.Laid.{stands-laid, entries-are}
+use Rattle.promises.proofs.Preparing.{PreparedIs, prepared-is}
 
 -- the words past the three lengths are as they were after a list of commands
 chain-beyond : (s : Sizes) {w w' : Words} {ms : List Command} {as' : List Answer} → Chain s w ms as' w' → SameBeyond s w w'

@@ -22,11 +22,11 @@ use Rattle.layout.specs.Words.{Words, depths_at, vars_at, page_in, pages_at, hea
 use Rattle.promises.specs.Whole.{WholeFor}
 use Rattle.promises.specs.StandsFor.{StandsFor, SameFrom, SameBeyond}
 use Rattle.promises.specs.Regular.{whole-regular}
-use Rattle.promises.specs.OwnedPages.{objects-on}
+use Rattle.promises.proofs.OwnedPages.{objects-on}
 use Rattle.promises.specs.Agreed.{objects-agree, heap-stands}
 use Rattle.promises.specs.Areas.{same-beyond}
 use Rattle.promises.specs.WordsOf.{ref_word, cell_word, crossed_at, entries_of, heap_words, laid}
-use Rattle.promises.specs.LaidCells.{ref-words, cell-is, crossed-is}
+use Rattle.promises.proofs.LaidCells.{ref-words, cell-is, crossed-is}
 
 module _ (s : Sizes) (w : Words) (h : Regioned) (to : ℕ → ℕ) (st : StandsFor s w h to) where
   abbrev t : List ℕ

@@ -32,8 +32,8 @@ use Rattle.remember.specs.Entries.{Edited, not_named}
 use Rattle.promises.specs.Slots.{cross-stored, cross-elsewhere}
 use Rattle.remember.specs.Crosses.{field-cross}
 use Rattle.remember.specs.Remembering.{Remembered, NoRoom, remembered-exact, remembered-edited}
-use Rattle.promises.specs.FieldStore.{field_room, stored-only, field-whole, object-stands, fields-kept, fields-set}
-use Rattle.promises.specs.FrameVariable.{ref-to-cell}
+use Rattle.promises.proofs.FieldStore.{field_room, stored-only, field-whole, object-stands, fields-kept, fields-set}
+use Rattle.promises.proofs.FrameVariable.{ref-to-cell}
 
 -- the slot of reference f in cell y, the region it crosses into, and that which reference v would there
 module _ (s : Sizes) (w : Words) (y f v : ℕ) where

@@ -23,7 +23,8 @@ use Rattle.promises.specs.Regular.{whole-regular}
 use Rattle.promises.specs.StandsFor.{StandsFor}
 use Rattle.promises.specs.Agreed.{objects-agree}
 use Rattle.promises.specs.Arriving.{more_pages}
-use Rattle.promises.specs.OwnedPages.{owned_one, pages_owned, owned-yes, owned-no, partly-filled, some-partly, objects-on, heap-free}
+use Rattle.promises.specs.OwnedPages.{owned_one, pages_owned, owned-yes, owned-no}
+use Rattle.promises.proofs.OwnedPages.{partly-filled, some-partly, objects-on, heap-free}
 
 -- ---- the innermost region of a thread
 

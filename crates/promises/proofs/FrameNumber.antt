@@ -20,7 +20,7 @@ use Rattle.promises.specs.Changes.{with_cells, with_object, with_field}
 use Rattle.promises.specs.Areas.{head_words, field_words, Only}
 use Rattle.remember.specs.Entries.{exact-everywhere}
 use Rattle.promises.specs.Slots.{cross-alike}
-use Rattle.promises.specs.FieldStore.{field-only, field-whole, object-stands, fields-kept, fields-set}
+use Rattle.promises.proofs.FieldStore.{field-only, field-whole, object-stands, fields-kept, fields-set}
 
 module _ (s : Sizes) (w : Words) (k : WholeFor s w) (y b v : ℕ) (u : BeginsIn s w y) (low : b < num_count w y) where
   abbrev j : ℕ

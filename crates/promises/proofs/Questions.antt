@@ -28,9 +28,9 @@ use Rattle.promises.specs.StandsFor.{StandsFor, SameBeyond}
 use Rattle.promises.specs.Promises.{Became, DidHere, Frees, Freed}
 use Rattle.promises.specs.Reading.{used-alive, length_fields, get_d-fields, ref-begins}
 use Rattle.promises.specs.Agreed.{heap-stands, object-at}
-use Rattle.promises.specs.Here.{here-var}
+use Rattle.promises.proofs.Here.{here-var}
 use Rattle.promises.specs.WordsOf.{laid}
-use Rattle.promises.specs.Laid.{stands-laid, whole-laid}
+use Rattle.promises.proofs.Laid.{stands-laid, whole-laid}
 use Rattle.promises.specs.Areas.{same-beyond}
 
 -- the same answer, as the code has it
