@@ -9,15 +9,15 @@ use Rattle.rules.specs.Rules as ru
 use Rattle.rules.specs.Rules.{Regioned}
 use Rattle.layout.specs.Words.{Words, sizes_in}
 use Rattle.chains.specs.Chains.{ChainsWhole, with_chains}
-use Rattle.chains.specs.LentChains.{chains-same, written-whole, written-long, written-again}
-use Rattle.chains.specs.Walking.{whole_long}
+use Rattle.chains.proofs.LentChains.{chains-same, written-whole, written-long, written-again}
+use Rattle.chains.proofs.Walking.{whole_long}
 use Rattle.promises.specs.Slices.{Slices, WholeSlices}
 use Rattle.promises.specs.StandsFor.{StandsFor}
 use Rattle.promises.specs.Promises.{Chain, none, more, answer_at, size, commands_in, answers_in, RunAsked, not_whole, other_chains, uneven, short, accepted, Ran, Did}
 use Rattle.promises.specs.Agreed.{whole_words}
 use Rattle.promises.specs.Chained.{chained}
 use Rattle.script.specs.Writing.{Put}
-use Rattle.script.specs.WritingLaws.{put-text}
+use Rattle.script.proofs.WritingLaws.{put-text}
 use Rattle.script.specs.Blocks.{stacked, answer_line}
 use Rattle.printed.specs.Printed.{running, answer_text, takes}
 use Rattle.lines.specs.Lines.{Lent, LineChanges, LinesChange}

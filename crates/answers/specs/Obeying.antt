@@ -20,7 +20,7 @@ use Rattle.script.specs.declared.Filled.{Filled}
 use Rattle.script.specs.declared.Filled.TheVariants.{Done, Full, Broken}
 use Rattle.script.specs.TextLaws.{found, left}
 use Rattle.script.specs.Writing.{Put, line_line}
-use Rattle.script.specs.WritingLaws.{put-text, put-put}
+use Rattle.script.proofs.WritingLaws.{put-text, put-put}
 use Rattle.script.specs.FewCommands.{command_count, count-append, commands-few}
 use Rattle.script.specs.Blocks.{Took}
 use Rattle.script.specs.BlocksLaws as sb

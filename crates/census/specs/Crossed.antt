@@ -26,7 +26,7 @@ use Rattle.remember.specs.Crossing.{other, crosses_to, cross_to}
 use Rattle.promises.specs.Crossings.{gone-cross, alive-cross}
 use Rattle.layout.specs.Objects.{begins-page, begins-true, begins-false, begins?, field-on, slots_of, slots-sum}
 use Rattle.remember.specs.Entries.{rising-once}
-use Rattle.remember.specs.Crosses.{field-cross, cross-slot, other-yes, other_test}
+use Rattle.remember.proofs.Crosses.{field-cross, cross-slot, other-yes, other_test}
 use Rattle.promises.specs.Slots.{region-of}
 use Rattle.promises.specs.Reading.{ref-begins, ref-room, no-home, refs-room, used-home, used-owned, used-alive, get_d-refs, refs-few, words-closed}
 use Rattle.mark.specs.Marks.{owner, kept-refs, kept_field, kept-owner}

@@ -10,8 +10,8 @@ use Rattle.layout.specs.Places.{owner_of, entries_used, slot_in, slot_region_in}
 use Rattle.layout.specs.Cells.{work_of, page_of, page_at, cell_named}
 use Rattle.layout.specs.Objects.{Begins}
 use Rattle.remember.specs.Table.{Table}
-use Rattle.remember.specs.Crosses.{cross-slot, slot-cross, Into, crosses-into, other-yes}
-use Rattle.chains.specs.Walking.{Leads}
+use Rattle.remember.proofs.Crosses.{cross-slot, slot-cross, Into, crosses-into, other-yes}
+use Rattle.chains.proofs.Walking.{Leads}
 use Rattle.mark.specs.Marks.{Shaped, owner}
 use Rattle.mark.specs.Holders.{Holding, slot-ref}
 use Rattle.census.specs.After.{after-still, cross-out, slot_crosses, slot-le, slot-in, slot-out, entries_cross}

@@ -4,9 +4,5 @@
 pub mod Chains
 -- laws
 pub mod Firsts
-pub mod Following
 pub mod Linking
-pub mod Walking
-pub mod Cutting
-pub mod LentChains
 pub mod ChainsExample

@@ -13,9 +13,9 @@ use Rattle.script.specs.declared.Reader.{Reader}
 use Rattle.script.specs.Reading.{fresh}
 use Rattle.script.specs.TextLaws.{found}
 use Rattle.script.specs.Writing.{sizes_line, Put}
-use Rattle.script.specs.WritingLaws.{put-text, put-put}
+use Rattle.script.proofs.WritingLaws.{put-text, put-put}
 use Rattle.script.specs.Blocks.{stacked}
-use Rattle.script.specs.BlocksCases.{stack-none}
+use Rattle.script.proofs.Stacked.{stack-none}
 use Rattle.printed.specs.Printed.{Session, opening, running, stopped, reported, takes_all, prints_all, ends_with}
 use Rattle.printed.specs.Pieces.{Machine, feed, feed_prints, missing, close_prints, stopped-takes, stopped-prints}
 use Rattle.lines.specs.Lines.{Holds, LinesChange}

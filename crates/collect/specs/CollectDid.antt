@@ -20,7 +20,7 @@ use Rattle.layout.specs.Words.{Words, words, Begins, Names, cell_count, ref_coun
 use Rattle.remember.specs.Entries.{Exact, Edited}
 use Rattle.remember.specs.Appending.{AtMost, at-most-less}
 use Rattle.remember.specs.Crossing.{cross_to}
-use Rattle.remember.specs.Crosses.{cross-slot}
+use Rattle.remember.proofs.Crosses.{cross-slot}
 use Rattle.promises.specs.Reading.{refs-few, words-closed}
 use Rattle.promises.specs.Crossings.{entries-crossing}
 use Rattle.promises.proofs.OwnedPages.{counted-objects}

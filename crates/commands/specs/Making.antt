@@ -31,7 +31,7 @@ use Rattle.promises.proofs.FrameNew.{Takes, blank_object, made-stands, to-old, w
 use Rattle.promises.proofs.TakenPage.{took-takes}
 use Rattle.pages.specs.Pages.{Filled, regular-filled, Found, taken}
 use Rattle.pages.specs.Noted.{Noted, noted-kept, none-freed-before, took-none-freed}
-use Rattle.pages.specs.Took.{found-room, taken-took}
+use Rattle.pages.proofs.Took.{found-room, taken-took}
 use Rattle.commands.specs.declared.Decoded.TheVariants.{New}
 use Rattle.commands.specs.Decoding.{command_for}
 use Rattle.commands.specs.ThreadVariables.{variable_at, variable-low}

@@ -19,7 +19,7 @@ use Rattle.laws.specs.Agree.{run-agrees}
 use Rattle.layout.specs.Words.{Words, sizes_in}
 use Rattle.lists.specs.Listed.{listed}
 use Rattle.chains.specs.Chains.{ChainsWhole}
-use Rattle.chains.specs.LentChains.{written-whole}
+use Rattle.chains.proofs.LentChains.{written-whole}
 use Rattle.promises.specs.Slices.{Slices}
 use Rattle.promises.specs.StandsFor.{StandsFor}
 use Rattle.promises.specs.Promises.{Chain, none, more, commands_in, answers_in, size, RunAsked, not_whole, other_chains, uneven, short, accepted, Ran, Prepared}

@@ -8,7 +8,7 @@ use Rattle.layout.specs.Cells.{field_at, field_of, page_of, cell_named}
 use Rattle.layout.specs.Objects.{Slot}
 use Rattle.layout.specs.Words.{Words, BeginsIn, owner_in, ref_count}
 use Rattle.remember.specs.Crossing.{other, region_of, cross_to, crosses_from}
-use Rattle.remember.specs.Crosses.{crosses-into, into-crosses, crosses-null, slot-cross, cross-slot}
+use Rattle.remember.proofs.Crosses.{crosses-into, into-crosses, crosses-null, slot-cross, cross-slot}
 use Rattle.remember.specs.Renewed.{Renewed, renewed-exact}
 use Rattle.promises.specs.Whole.{RememberWhole}
 use Rattle.promises.specs.Slots.{region-of}

@@ -7,7 +7,7 @@ use Rattle.rules.specs.declared.Answer.{Answer}
 use Rattle.layout.specs.Places.{sizes_at}
 use Rattle.layout.specs.Words.{Words, words}
 use Rattle.chains.specs.Chains.{ChainsWhole, with_chains}
-use Rattle.chains.specs.LentChains.{chains-same, written-whole, written-again}
+use Rattle.chains.proofs.LentChains.{chains-same, written-whole, written-again}
 use Rattle.promises.specs.Whole.{WholeFor}
 use Rattle.promises.specs.Slices.{Slices, slices, WholeSlices}
 use Rattle.promises.specs.Promises.{DidHere, command_at, size, RunAsked, Ran}

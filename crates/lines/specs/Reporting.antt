@@ -19,9 +19,9 @@ use Rattle.report.specs.Report.{rows, no_row, total_of}
 use Rattle.report.specs.Tables.{WholeTables, rows_in, free_in}
 use Rattle.report.specs.Stands.{rows-stand, free-stands, made-stands, freed-stands}
 use Rattle.script.specs.Writing.{row, Put}
-use Rattle.script.specs.WritingLaws.{word-length, put-text, put-put}
+use Rattle.script.proofs.WritingLaws.{word-length, put-text, put-put}
 use Rattle.script.specs.Blocks.{stacked}
-use Rattle.script.specs.BlocksCases.{two-length, stack-none}
+use Rattle.script.proofs.Stacked.{two-length, stack-none}
 use Rattle.printed.specs.Printed.{row_text, rows_text, reported}
 use Rattle.lines.specs.Lines.{Here}
 

@@ -7,8 +7,9 @@ use Rattle.std.proofs.Math.Decide.{ℕ_discrete, dec_lt}
 use Rattle.lists.specs.Stores.{drop-same}
 use Rattle.remember.specs.Table.{Entry, nth_region}
 use Rattle.chains.specs.Chains.{Among, chains_of}
-use Rattle.chains.specs.Firsts.{first_from, first-end, first-here, first-other, next_of, next-is, next-end}
-use Rattle.chains.specs.Linking.{agreed, agreed-first, agreed-next}
+use Rattle.chains.specs.Firsts.{first_from, next_of}
+use Rattle.chains.proofs.Firsts.{first-end, first-here, first-other, next-is, next-end}
+use Rattle.chains.proofs.Linking.{agreed, agreed-first, agreed-next}
 use Rattle.linking.specs.Words.{Names, names-one, Chained}
 use Rattle.linking.specs.Shifting.{Parted}
 use Rattle.linking.specs.Joining.{Else}

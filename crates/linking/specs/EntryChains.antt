@@ -11,7 +11,7 @@ use Rattle.remember.specs.TableWords.{HoldsEntries, to-long, to_at, written-beco
 use Rattle.remember.specs.Edits.{inserted-long, inserted_below, inserted-here, inserted_above, removed-long, removed-below, removed-above}
 use Rattle.remember.specs.EntryEdits.{change-written}
 use Rattle.chains.specs.Chains.{Among, Chainable, ChainsWhole, chains_of, with_chains}
-use Rattle.chains.specs.Walking.{whole_long}
+use Rattle.chains.proofs.Walking.{whole_long}
 use Rattle.linking.specs.Words.{Chained, chained-onward}
 use Rattle.linking.specs.Shifting.{Opened, opened-chained, Closed, closed-chained}
 use Rattle.linking.specs.Joining.{Linked, linked_long, linked-else, linked-chains, Unlinked, unlinked-long, unlinked-else, unlinked-chains}

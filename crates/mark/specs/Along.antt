@@ -6,7 +6,7 @@ use Rattle.rules.specs.declared.Sizes.{Sizes}
 use Rattle.rules.specs.Regions.{regions}
 use Rattle.layout.specs.Places.{entries_used, slot_region_in, first_in, next_in}
 use Rattle.chains.specs.Chains.{ChainsWhole}
-use Rattle.chains.specs.Walking.{Leads, first-leads, next-leads}
+use Rattle.chains.proofs.Walking.{Leads, first-leads, next-leads}
 use Rattle.mark.specs.Holders.{slot_held, slot-elsewhere}
 use Rattle.mark.specs.Pushes.{Pushing, Pushing.none, pushing-nulls}
 

@@ -12,7 +12,7 @@ use Rattle.layout.specs.Places.{Room, var_of, owner_of, entries_used, slot_in, s
 use Rattle.layout.specs.Cells.{page_at, cell_of, at-page}
 use Rattle.layout.specs.Objects.{Slot, slot-word}
 use Rattle.layout.specs.Words.{words}
-use Rattle.remember.specs.Crosses.{cross-slot}
+use Rattle.remember.proofs.Crosses.{cross-slot}
 use Rattle.promises.specs.Whole.{IsRef, VariablesWhole, RememberWhole}
 use Rattle.promises.proofs.Frames.{variables-frame, remember-frame}
 use Rattle.mark.specs.Marks.{Shaped, Kept, kept-only, kept-owner}

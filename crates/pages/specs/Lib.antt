@@ -3,4 +3,3 @@ pub mod Owned
 pub mod Listing
 pub mod Pages
 pub mod Noted
-pub mod Took

@@ -67,18 +67,3 @@ Above pages page n = (page < pages → n + page + 1 ≡ pages) × (pages ≤ pag
 
 pub above_within : (pages page n : ℕ) → Above pages page n → n ≤ pages
 above_within pages page n a = by_cases (dec_lt page pages) (λ l. omega (arith, a.0 l)) (λ l. omega (arith, a.1 (omega arith)))
-
-module _ {p : Sizes} {t notes : List ℕ} {n page : ℕ} (h : Noted p t notes) (e : n ≡ passed_from p notes) (f : Free p t n page) where
-  pub noted-free : Free p t p.pages page
-  noted-free = free_all (λ x l. h.passed x (omega arith)) f
-
-  -- the pages above the one that was found become note 0
-  pub noted-found : {k : ℕ} → Above p.pages page k → Noted p t (set notes 0 k)
-  noted-found {k} a =
-      record { long = omega (arith, h.long, length-set notes 0 k); passed = λ x l m z. go x m z (noted-free.some x m z) (at x l) }
-    where
-      at : (x : ℕ) → passed_from p (set notes 0 k) ≤ x → p.pages - k ≤ x
-      at x l = omega (arith, get_or-set_same notes 0 k 0 (omega (arith, h.long)))
-
-      go : (x : ℕ) → x < p.pages → owner_of p t x ≡ 0 → (x ≤ page) × (page < p.pages) → p.pages - k ≤ x → ⊥
-      go x m z s l = omega (arith, s.0, s.1, a.0 s.1)

@@ -30,7 +30,7 @@ use Rattle.promises.specs.Changes.{with_object, with_field}
 use Rattle.promises.specs.Areas.{field_words, entry_words, Only}
 use Rattle.remember.specs.Entries.{Edited, not_named}
 use Rattle.promises.specs.Slots.{cross-stored, cross-elsewhere}
-use Rattle.remember.specs.Crosses.{field-cross}
+use Rattle.remember.proofs.Crosses.{field-cross}
 use Rattle.remember.specs.Remembering.{Remembered, NoRoom, remembered-exact, remembered-edited}
 use Rattle.promises.proofs.FieldStore.{field_room, stored-only, field-whole, object-stands, fields-kept, fields-set}
 use Rattle.promises.proofs.FrameVariable.{ref-to-cell}

@@ -23,7 +23,7 @@ use Rattle.layout.specs.Cells.{head_at, work_at, field_at, field_of, head_word, 
 use Rattle.layout.specs.Objects.{used-begins, begins-page, slot-word}
 use Rattle.layout.specs.Words.{Words, BeginsIn, head_in, owner_in, refs_in, nums_in, ref_count, num_count}
 use Rattle.remember.specs.Crossing.{other, crosses_to, cross_to}
-use Rattle.remember.specs.Crosses.{field-cross, no-cross}
+use Rattle.remember.proofs.Crosses.{field-cross, no-cross}
 use Rattle.promises.specs.StandsFor.{StandsFor}
 use Rattle.promises.specs.Slots.{region-of}
 use Rattle.promises.specs.Reading.{used-alive, used-home, length_fields, get_d-fields, get_d-refs, ref-room}

@@ -17,7 +17,7 @@ use Rattle.layout.specs.Words.{Words, sizes_in, heap_of}
 use Rattle.promises.specs.Whole.{WholeFor}
 use Rattle.remember.specs.Table.{Entry}
 use Rattle.chains.specs.Chains.{chains_of}
-use Rattle.chains.specs.LentChains.{no-chains}
+use Rattle.chains.proofs.LentChains.{no-chains}
 use Rattle.promises.specs.Slices.{Slices}
 use Rattle.promises.specs.StandsFor.{StandsFor, SameFrom, SameBeyond}
 use Rattle.promises.specs.WordsOf.{laid, laid_slices}

@@ -12,7 +12,7 @@ use Rattle.lists.specs.Tests.{cond-zero}
 use Rattle.lists.specs.Zeros.{all-zero}
 use Rattle.lists.specs.Counting.{sum-none}
 use Rattle.lists.specs.Listed.{listed_same, listed-all}
-use Rattle.remember.specs.Crosses.{cross-slot}
+use Rattle.remember.proofs.Crosses.{cross-slot}
 use Rattle.promises.specs.Whole.{objects_on, WholeFor}
 use Rattle.rules.specs.declared.Sizes.{Sizes}
 use Rattle.rules.specs.NeverFreeing.{empty}
@@ -24,7 +24,7 @@ use Rattle.laws.specs.SameRules.{renamed-zeros}
 use Rattle.rules.specs.Pages.{free_page}
 use Rattle.layout.specs.Words.{Words, BeginsIn, sizes_in, depths_in, vars_in, owner_in, used_in, made_in, freed_in, page_in, pages_at, pages_in}
 use Rattle.chains.specs.Chains.{ChainsWhole}
-use Rattle.chains.specs.LentChains.{no-chains}
+use Rattle.chains.proofs.LentChains.{no-chains}
 use Rattle.promises.specs.Slices.{Slices}
 use Rattle.promises.specs.StandsFor.{StandsFor}
 use Rattle.promises.specs.Areas.{starts}

@@ -10,14 +10,14 @@ use Rattle.layout.specs.Places.{cells_words, entries_used, slot_in, first_in}
 use Rattle.layout.specs.Cells.{page_of, cell_named, field_of}
 use Rattle.layout.specs.Objects.{Slot}
 use Rattle.layout.specs.Words.{Words, owner_in}
-use Rattle.remember.specs.Crosses.{slot-crosses, cross-slot, Into, crosses-into, into-crosses}
+use Rattle.remember.proofs.Crosses.{slot-crosses, cross-slot, Into, crosses-into, into-crosses}
 use Rattle.remember.specs.Crossing.{crosses_from, cross_to}
 use Rattle.remember.specs.Table.{region, nth_region, entries_in}
 use Rattle.remember.specs.TableWords.{to-long, to_at}
 use Rattle.chains.specs.Chains.{ChainsWhole, places_of, followed}
-use Rattle.chains.specs.Following.{places-right, places-all, places-rise}
-use Rattle.chains.specs.Linking.{chain-agreed}
-use Rattle.chains.specs.Walking.{whole_long, first-leads}
+use Rattle.chains.proofs.Following.{places-right, places-all, places-rise}
+use Rattle.chains.proofs.Linking.{chain-agreed}
+use Rattle.chains.proofs.Walking.{whole_long, first-leads}
 use Rattle.promises.specs.Whole.{WholeFor}
 
 -- the word at position q is a slot of an object outside region r, and names an object of r

@@ -17,7 +17,7 @@ use Rattle.layout.specs.Objects.{Slot, cell_count, begins?, begins-page, begins-
 use Rattle.layout.specs.Words.{Words, BeginsIn, owner_in, ref_count, refs_in, graph_of}
 use Rattle.remember.specs.Crossing as cr
 use Rattle.remember.specs.Crossing.{other, crosses_to}
-use Rattle.remember.specs.Crosses.{field-cross, no-cross, other_test}
+use Rattle.remember.proofs.Crosses.{field-cross, no-cross, other_test}
 use Rattle.promises.specs.Whole.{WholeFor, IsRef}
 use Rattle.promises.specs.StandsFor.{StandsFor}
 use Rattle.promises.specs.Slots.{region-of}

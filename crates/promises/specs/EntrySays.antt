@@ -7,7 +7,7 @@ use Rattle.layout.specs.Cells.{field_at, field_of, page_of, page_at, cell_named}
 use Rattle.layout.specs.Objects.{begins-page, field-inside, slot-page}
 use Rattle.layout.specs.Words.{Words, BeginsIn, owner_in, ref_count}
 use Rattle.remember.specs.Crossing.{other, crosses_to, cross_to}
-use Rattle.remember.specs.Crosses.{slot-crosses, field-cross, cross-slot, crosses-into, other-yes}
+use Rattle.remember.proofs.Crosses.{slot-crosses, field-cross, cross-slot, crosses-into, other-yes}
 use Rattle.promises.specs.Whole.{WholeFor}
 use Rattle.promises.specs.Slots.{region-of}
 use Rattle.promises.specs.Reading.{ref-begins, ref-room}

@@ -10,7 +10,7 @@ use Rattle.layout.specs.Cells.{head_at, head_of, field_count, room_for, page_of,
 use Rattle.layout.specs.declared.Kind.TheVariants.{Reference}
 use Rattle.layout.specs.Objects.{Begins, begins-page, begins-same, begins-back, field-not-head, Slot, slot?, slot-on}
 use Rattle.remember.specs.Crossing.{other, region_of, crosses_to, crosses_at, cross_to}
-use Rattle.remember.specs.Crosses.{slot-cross, no-cross, region-there}
+use Rattle.remember.proofs.Crosses.{slot-cross, no-cross, region-there}
 use Rattle.remember.specs.Entries.{Elsewhere}
 
 -- the region of a reference to a cell of the heap

@@ -6,7 +6,7 @@ use Rattle.layout.specs.Places.{owner_of, entries_words, cells_words}
 use Rattle.layout.specs.Cells.{head_at, field_at, field_of, head_of, refs_of, most_fields, room_most, field_end, page_cells, page_of, cell_on}
 use Rattle.layout.specs.Objects.{Begins}
 use Rattle.remember.specs.Crossing.{crosses_from, cross_to}
-use Rattle.remember.specs.Crosses.{no-cross, field-cross}
+use Rattle.remember.proofs.Crosses.{no-cross, field-cross}
 use Rattle.remember.specs.Entries.{entered}
 use Rattle.remember.specs.Appending.{AtMost}
 use Rattle.retell.specs.SlotStretches.{NoSlot, gap-before, gap-after, gap-past, Readable, readable-part, PageReadable, used-most}

@@ -6,9 +6,7 @@ pub mod LineLaws
 pub mod TextLaws
 pub mod FewCommands
 pub mod Writing
-pub mod WritingLaws
 pub mod Blocks
 pub mod BlocksCases
 pub mod BlocksLaws
-pub mod RoundTrip
 pub mod Examples

@@ -15,8 +15,8 @@ use Rattle.script.specs.declared.Scan.TheVariants.{Open, Found}
 use Rattle.script.specs.Reading.{started, scanned}
 use Rattle.script.specs.TextLaws.{found, left, Brings, scan-reads}
 use Rattle.script.specs.Writing.{Put, sizes_line}
-use Rattle.script.specs.WritingLaws.{put-text}
-use Rattle.script.specs.BlocksCases.{stack-none}
+use Rattle.script.proofs.WritingLaws.{put-text}
+use Rattle.script.proofs.Stacked.{stack-none}
 use Rattle.script.specs.Blocks.{stacked}
 use Rattle.printed.specs.Printed.{sizes, Session, opening, running, stopped, takes, prints, takes_all, prints_all}
 use Rattle.printed.specs.Pieces.{Machine, machine, feed, feed_prints, stopped-takes, stopped-prints}

@@ -8,7 +8,7 @@ use Rattle.layout.specs.Cells.{field_at, page_of, word_of, most_fields}
 use Rattle.layout.specs.Words.{Names}
 use Rattle.remember.specs.Entries.{NamedWith, rising-once}
 use Rattle.remember.specs.Staying.{Entries}
-use Rattle.chains.specs.Walking.{Leads}
+use Rattle.chains.proofs.Walking.{Leads}
 use Rattle.settle.specs.Rewrite.{forwarded, Rewritten, rewritten-none, rewritten-one, rewritten-join, rewritten-like}
 
 -- ---- the remembered slots with region r

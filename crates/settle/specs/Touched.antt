@@ -14,7 +14,7 @@ use Rattle.remember.specs.Finding.{Between}
 use Rattle.remember.specs.Filtered.{Unchanged}
 use Rattle.remember.specs.Staying.{new_region, new-stays}
 use Rattle.chains.specs.Chains.{Chainable, ChainsWhole}
-use Rattle.chains.specs.Walking.{Leads, first-leads}
+use Rattle.chains.proofs.Walking.{Leads, first-leads}
 
 -- ---- own slots
 

@@ -15,7 +15,7 @@ use Rattle.script.specs.declared.Last.{Last}
 use Rattle.script.specs.declared.Last.TheVariants.{Nothing, Unended}
 use Rattle.script.specs.Writing.{row, line_line, Put}
 use Rattle.script.specs.BlocksLaws.{used_in, length_found}
-use Rattle.script.specs.WritingLaws.{decimal-length}
+use Rattle.script.proofs.WritingLaws.{decimal-length}
 use Rattle.printed.specs.Printed.{sizes, accepted, Session, opening, running, stopped, takes, takes_all}
 use Rattle.printed.specs.Pieces.{Machine, machine, feed, first}
 use Rattle.lines.specs.Lines.{Lent, Here, Holds}

@@ -8,7 +8,7 @@ use Rattle.layout.specs.Places.{cells_words, owner_of, used_of}
 use Rattle.layout.specs.Cells.{head_at, head_of, field_at, field_of, refs_of, most_fields, room_for, room_most, field_end, page_cells, page_of, cell_on, page-on}
 use Rattle.layout.specs.Objects.{Begins, begins-there, Slot, none_before, none_after, none-past}
 use Rattle.remember.specs.Crossing.{crosses_from, cross_to, crossing}
-use Rattle.remember.specs.Crosses.{field-cross, no-cross}
+use Rattle.remember.proofs.Crosses.{field-cross, no-cross}
 use Rattle.whole.specs.Cells.{CellsWhole}
 
 -- how many slots cross before position n

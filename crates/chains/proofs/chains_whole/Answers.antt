@@ -1,7 +1,7 @@
 use Rattle.std.proofs.Common.{arith, mul-le-mul}
 use Rattle.lists.specs.Says.{says-no}
-use Rattle.chains.specs.Walking.{whole_long}
-use Rattle.chains.specs.LentChains.{chainable-listed, chains-agree, agreed-words}
+use Rattle.chains.proofs.Walking.{whole_long}
+use Rattle.chains.proofs.LentChains.{chainable-listed, chains-agree, agreed-words}
 use Rattle.chains.proofs.chains_whole.Goals as goal
 
 pub overflow_add-last : goal.overflow_add-last

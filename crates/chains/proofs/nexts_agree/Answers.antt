@@ -3,7 +3,8 @@ use Rattle.lists.specs.Says.{says-yes, says-no, true-not-false}
 use Rattle.layout.specs.Places.{entries_used}
 use Rattle.remember.specs.Table.{entries_in}
 use Rattle.remember.specs.TableWords.{to-long}
-use Rattle.chains.specs.Linking.{Firsts, Read, region-read, firsts-none, firsts_more, next-wrong, nexts-more}
+use Rattle.chains.specs.Linking.{Firsts}
+use Rattle.chains.proofs.Linking.{Read, region-read, firsts-none, firsts_more, next-wrong, nexts-more}
 use Rattle.chains.proofs.nexts_agree.Goals as goal
 use Rattle.chains.proofs.nexts_agree.Goals.{After-wide-g}
 

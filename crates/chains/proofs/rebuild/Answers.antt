@@ -1,5 +1,5 @@
 use Rattle.std.proofs.Common.{arith}
-use Rattle.chains.specs.LentChains.{chainable-listed, chains-written}
+use Rattle.chains.proofs.LentChains.{chainable-listed, chains-written}
 use Rattle.chains.proofs.rebuild.Goals as goal
 
 pub relink-requires : goal.relink-requires

@@ -2,7 +2,7 @@ use Rattle.std.proofs.Common.{ℕ, ◌+◌, ◌-◌, ◌≡◌, refl, sym, ap, s
 use Rattle.layout.specs.Places.{entries_used}
 use Rattle.remember.specs.Table.{entries_in}
 use Rattle.remember.specs.TableWords.{to-long}
-use Rattle.chains.specs.Linking.{Linked, Read, region-read, linked-none, linked-step, linked-all}
+use Rattle.chains.proofs.Linking.{Linked, Read, region-read, linked-none, linked-step, linked-all}
 use Rattle.chains.proofs.relink.Goals as goal
 use Rattle.chains.proofs.relink.Goals.{After-wide-g}
 

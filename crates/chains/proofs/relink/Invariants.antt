@@ -2,7 +2,7 @@
 use Rattle.std.proofs.Common.{◌+◌, ◌≤◌, ◌≡◌, length}
 use Rattle.layout.specs.Places.{entries_used}
 use Rattle.remember.specs.Table.{entries_in}
-use Rattle.chains.specs.Linking.{Linked}
+use Rattle.chains.proofs.Linking.{Linked}
 use Rattle.chains.proofs.relink.Given as goal
 
 abbrev pub invariant-loop-i : goal.invariant-loop-i

@@ -2,7 +2,7 @@
 use Rattle.std.proofs.Common.{◌∙◌, arith}
 use Rattle.lists.specs.Says.{says-no, said-no}
 use Rattle.remember.specs.TableWords.{zeros}
-use Rattle.chains.specs.Linking.{agree-nexts, agree-rest, agree-firsts, agree-all}
+use Rattle.chains.proofs.Linking.{agree-nexts, agree-rest, agree-firsts, agree-all}
 use Rattle.chains.proofs.words_agree.Goals as goal
 
 pub used-requires : goal.used-requires

@@ -8,7 +8,7 @@ use Rattle.layout.specs.Objects.{begins-page}
 use Rattle.promises.proofs.OwnedPages.{count_fits}
 use Rattle.promises.proofs.TakeCell.{Took}
 use Rattle.pages.specs.Pages.{taken}
-use Rattle.pages.specs.Took.{taken-took}
+use Rattle.pages.proofs.Took.{taken-took}
 use Rattle.copy.specs.Marks.{marks_at, raised, clear-fresh}
 use Rattle.copy.specs.Moves.{Movable, movable-taken}
 use Rattle.copy.proofs.move_cell.Goals as goal

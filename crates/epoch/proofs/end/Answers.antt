@@ -2,7 +2,7 @@
 use Rattle.std.proofs.Common.{ℕ, ◌^◌, ◌<◌, false, ◌≡◌, sym, ◌∙◌, arith, length}
 use Rattle.layout.specs.Places.{depth_of, mark_of}
 use Rattle.layout.specs.Words.{Words, words}
-use Rattle.chains.specs.LentChains.{chains-same}
+use Rattle.chains.proofs.LentChains.{chains-same}
 use Rattle.promises.specs.Reading.{whole_room}
 use Rattle.promises.proofs.Questions.{did-answer}
 use Rattle.mark.specs.Survivors.{none-survives}

@@ -1,6 +1,6 @@
 -- The listed pages are counted over, and the marking is either undone or evacuated: at each way out the promise of code 2 holds.
 use Rattle.std.proofs.Common.{◌≡◌, sym, ◌∙◌, arith}
-use Rattle.chains.specs.LentChains.{chains-same}
+use Rattle.chains.proofs.LentChains.{chains-same}
 use Rattle.promises.proofs.Questions.{did-answer}
 use Rattle.lists.specs.Zeros.{replicate-at}
 use Rattle.layout.specs.Places.{most_regions, regions-few}

@@ -1,6 +1,6 @@
 -- What `commands` answers is the answer; an end or a collection starts from the words as they were.
 use Rattle.std.proofs.Common.{sym, ap, ◌∙◌}
-use Rattle.chains.specs.Walking.{whole_long}
+use Rattle.chains.proofs.Walking.{whole_long}
 use Rattle.commands.specs.declared.Obeyed.TheVariants.{Ends}
 use Rattle.heap.specs.Running.{obeyed-answered, left_end, left-collection, left-whole, left-did, chains-there, chains-over}
 use Rattle.heap.proofs.obey.Goals as goal

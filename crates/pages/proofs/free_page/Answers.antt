@@ -1,6 +1,7 @@
 -- The search begins below the pages that note 0 counts, and what lies above the page that it finds is counted next.
 use Rattle.std.proofs.Common.{arith}
-use Rattle.pages.specs.Noted.{above_within, noted-free, noted-found}
+use Rattle.pages.specs.Noted.{above_within}
+use Rattle.pages.proofs.NotedSearch.{noted-free, noted-found}
 use Rattle.pages.proofs.free_page.Goals as goal
 
 pub overflow_cast-notes : goal.overflow_cast-notes

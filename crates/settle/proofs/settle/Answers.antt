@@ -3,7 +3,7 @@
 use Rattle.std.proofs.Common.{arith, ℕ, List, ◌≡◌, sym, ◌∙◌, subst}
 use Rattle.rules.specs.declared.Sizes.{Sizes}
 use Rattle.layout.specs.Places.{entries_used}
-use Rattle.chains.specs.Walking.{whole_long}
+use Rattle.chains.proofs.Walking.{whole_long}
 use Rattle.settle.specs.Update.{Settles, Updated, settles-table, settle-asks, settles-appended, settles-updated}
 use Rattle.settle.specs.Renew.{passed, renew-ask}
 use Rattle.settle.proofs.settle.Goals as goal

@@ -1,6 +1,6 @@
 use Rattle.std.proofs.Common.{ℕ, ◌-◌, ◌≤◌, ◌≡◌, ap, ◌∙◌, arith}
 use Rattle.layout.specs.Places.{slot_in, first_in, next_in}
-use Rattle.chains.specs.Walking.{Leads, first-leads, next-leads, whole_long, ahead-less}
+use Rattle.chains.proofs.Walking.{Leads, first-leads, next-leads, whole_long, ahead-less}
 use Rattle.census.specs.After.{slot-le}
 use Rattle.census.specs.Going.{walk_begins, walk-few, walk-on, walk_ends}
 use Rattle.census.proofs.crossing.gone_entries.Goals as goal

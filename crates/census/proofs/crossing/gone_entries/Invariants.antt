@@ -1,5 +1,5 @@
 -- x is where the walk along the chain of r has come to, n how many of the entries before it go.
-use Rattle.chains.specs.Walking.{ahead}
+use Rattle.chains.proofs.Walking.{ahead}
 use Rattle.census.specs.Going.{Walked}
 use Rattle.census.proofs.crossing.gone_entries.Given as goal
 

@@ -1,7 +1,7 @@
 -- Each arm by the promise of its command.
 use Rattle.std.proofs.Common.{refl}
 use Rattle.commands.specs.declared.Decoded.TheVariants.{Start, New, Copy, Clear, Load, Store, Read, Write, Same}
-use Rattle.chains.specs.LentChains.{chains-same}
+use Rattle.chains.proofs.LentChains.{chains-same}
 use Rattle.pages.specs.Noted.{noted-kept}
 use Rattle.commands.specs.Obeys.{in-range, obeyed, ends, collects, not-obeyed}
 use Rattle.commands.proofs.obey.obey.Goals as goal

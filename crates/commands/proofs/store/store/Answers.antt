@@ -3,7 +3,7 @@ use Rattle.std.proofs.Common.{◌≡◌, ◌^◌, ◌<◌, length, ap, ◌∙◌
 use Rattle.rules.specs.Terms.{refused}
 use Rattle.promises.proofs.Questions.{did-answer}
 use Rattle.layout.specs.Words.{words}
-use Rattle.chains.specs.LentChains.{chains-same}
+use Rattle.chains.proofs.LentChains.{chains-same}
 use Rattle.promises.specs.Reading.{whole_room}
 use Rattle.commands.specs.Objects.{names-cell}
 use Rattle.commands.specs.Storing.{storing, store-refused, store-did}

@@ -3,7 +3,7 @@ use Rattle.std.proofs.Common.{◌<◌, arith, refl}
 use Rattle.layout.specs.Places.{entries_used}
 use Rattle.remember.specs.Remembering.{place-low, place-used, entry-comes, entry-changes, entry-goes}
 use Rattle.remember.specs.Remembering.Remembered.{kept, full}
-use Rattle.chains.specs.LentChains.{chains-same}
+use Rattle.chains.proofs.LentChains.{chains-same}
 use Rattle.linking.specs.EntryChains.{table-came, table-went, table-changed}
 use Rattle.linking.proofs.entries.remember_slot.Goals as goal
 use Rattle.linking.proofs.entries.remember_slot.Goals.{Else-entries-wide}

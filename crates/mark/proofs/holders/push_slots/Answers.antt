@@ -1,5 +1,5 @@
 use Rattle.std.proofs.Common.{refl, ◌∙◌, ◌<◌, arith}
-use Rattle.chains.specs.Walking.{ahead-less, whole_long}
+use Rattle.chains.proofs.Walking.{ahead-less, whole_long}
 use Rattle.mark.specs.Pushes.{pushing-kept, pushing-shaped, ref-read, push-read}
 use Rattle.mark.specs.Holders.{slot-low, slot-held-ref, kept-slot-held}
 use Rattle.mark.specs.Along.{along-start, along-low, along-region, along-here, along-all, leads-on, along-next}

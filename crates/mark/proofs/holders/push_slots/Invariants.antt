@@ -1,6 +1,6 @@
 -- What the slots of the entries before a place hold for g is pushed, and x leads to the first entry of r from there on.
 use Rattle.std.proofs.Common.{◌≡◌, length}
-use Rattle.chains.specs.Walking.{ahead}
+use Rattle.chains.proofs.Walking.{ahead}
 use Rattle.mark.specs.Along.{Along}
 use Rattle.mark.proofs.holders.push_slots.Given as goal
 

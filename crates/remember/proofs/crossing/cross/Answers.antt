@@ -1,5 +1,5 @@
 -- The region there, seen from the slot's own.
-use Rattle.remember.specs.Crosses.{crosses-by}
+use Rattle.remember.proofs.Crosses.{crosses-by}
 use Rattle.remember.proofs.crossing.cross.Goals as goal
 
 pub returns : goal.returns

@@ -1,7 +1,7 @@
 -- The word at a position is a slot where its cell is in use and the word is one of its references.
 use Rattle.std.proofs.Common.{◌∙◌}
 use Rattle.lists.specs.Says.{said-no}
-use Rattle.remember.specs.Crosses.{cross-unused, cross-other, cross-read}
+use Rattle.remember.proofs.Crosses.{cross-unused, cross-other, cross-read}
 use Rattle.remember.proofs.crossing.cross_to.Goals as goal
 
 pub returns-then-used-place_of : goal.returns-then-used-place_of

@@ -1,6 +1,6 @@
 -- The page of the cell that is named is there, so its owner is the region.
 use Rattle.std.proofs.Common.{arith}
-use Rattle.remember.specs.Crosses.{region-null, region-there}
+use Rattle.remember.proofs.Crosses.{region-null, region-there}
 use Rattle.remember.proofs.crossing.region_named.Goals as goal
 
 pub returns-then-x-eq0 : goal.returns-then-x-eq0

@@ -1,6 +1,6 @@
 -- A reference names a cell, whose page is there or not.
 use Rattle.std.proofs.Common.{arith}
-use Rattle.remember.specs.Crosses.{region-null, region-out}
+use Rattle.remember.proofs.Crosses.{region-null, region-out}
 use Rattle.remember.proofs.crossing.region_of.Goals as goal
 
 pub returns-then-x-eq0 : goal.returns-then-x-eq0

@@ -1,7 +1,7 @@
 use Rattle.std.proofs.Common.{◌+◌, ◌*◌, ◌-◌, ◌≤◌, ◌≡◌, refl, ap, arith, length}
-use Rattle.script.specs.WritingLaws.{put-text}
+use Rattle.script.proofs.WritingLaws.{put-text}
 use Rattle.script.specs.Blocks.{stacked, answer_line}
-use Rattle.script.specs.BlocksCases.{stack-none, stack-end, stack-answer}
+use Rattle.script.proofs.Stacked.{stack-none, stack-end, stack-answer}
 use Rattle.script.proofs.blocks.put_answers.Goals as goal
 
 pub loop-i-init : goal.loop-i-init

@@ -1,6 +1,6 @@
 use Rattle.std.proofs.Common.{◌-◌, arith, length, length-set}
 use lib.Seq.{paste, paste-zero}
-use Rattle.script.specs.WritingLaws.{copy-byte, copied}
+use Rattle.script.proofs.WritingLaws.{copy-byte, copied}
 use Rattle.script.proofs.write.put_bytes.Goals as goal
 
 pub loop-i-init : goal.loop-i-init

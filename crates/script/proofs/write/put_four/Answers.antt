@@ -1,6 +1,6 @@
 -- `script::write::put_four` meets its contract: each number takes eleven bytes at most with the byte behind it.
 use Rattle.std.proofs.Common.{arith}
-use Rattle.script.specs.WritingLaws.{word-length, put-end, put_four}
+use Rattle.script.proofs.WritingLaws.{word-length, put-end, put_four}
 use Rattle.script.proofs.write.put_four.Goals as goal
 
 pub put_then-second-requires : goal.put_then-second-requires

@@ -1,6 +1,6 @@
 -- `script::write::put_line` meets its contract: the number takes twenty bytes at most.
 use Rattle.std.proofs.Common.{arith}
-use Rattle.script.specs.WritingLaws.{decimal-length, put-line}
+use Rattle.script.proofs.WritingLaws.{decimal-length, put-line}
 use Rattle.script.proofs.write.put_line.Goals as goal
 
 pub put_then-requires : goal.put_then-requires

@@ -1,6 +1,6 @@
 -- `script::write::put_number` meets its contract: io writes the digits, and put_bytes brings them to their place.
 use Rattle.std.proofs.Common.{ap, arith, length}
-use Rattle.script.specs.WritingLaws.{decimal-digits, put-text}
+use Rattle.script.proofs.WritingLaws.{decimal-digits, put-text}
 use Rattle.script.proofs.write.put_number.Goals as goal
 
 pub put_bytes-requires : goal.put_bytes-requires

@@ -1,7 +1,7 @@
 -- The entries that stay, those before the first that is touched as they are, then zeros: nothing is copied, so none comes.
 use Rattle.std.proofs.Common.{arith, ℕ, refl, sym, ◌∙◌, subst}
 use Rattle.layout.specs.Places.{entries_used}
-use Rattle.chains.specs.Walking.{whole_long}
+use Rattle.chains.proofs.Walking.{whole_long}
 use Rattle.settle.specs.Settle.{settled-none}
 use Rattle.settle.specs.Update.{Settles, Updated, settles-table, settles-kept}
 use Rattle.settle.specs.Renew.{passed, renew-ask}

@@ -1,7 +1,7 @@
 -- The table was cut, or the chains are written anew.
 use Rattle.std.proofs.Common.{arith, mul-le-mul}
-use Rattle.chains.specs.Walking.{whole_long}
-use Rattle.chains.specs.Cutting.{cut-chains}
+use Rattle.chains.proofs.Walking.{whole_long}
+use Rattle.chains.proofs.Cutting.{cut-chains}
 use Rattle.settle.proofs.renew.renew_chains.Goals as goal
 
 pub set_first-requires : goal.set_first-requires

@@ -2,7 +2,7 @@ use Rattle.std.proofs.Common.{arith, get_or, ℕ, ◌-◌, ◌<◌, refl, sym, a
 use Rattle.layout.specs.Places.{slot_in, first_in, next_in, cells_words}
 use Rattle.layout.specs.Cells.{cell_in}
 use Rattle.layout.specs.Words.{Names}
-use Rattle.chains.specs.Walking.{Leads, ahead-less, whole_long, first-leads, next-leads}
+use Rattle.chains.proofs.Walking.{Leads, ahead-less, whole_long, first-leads, next-leads}
 use Rattle.settle.specs.RewriteSlots.{along-start, along-low, along-names, along-turn, along-end}
 use Rattle.settle.proofs.rewrite.rewrite_slots.Goals as goal
 use Rattle.settle.proofs.rewrite.rewrite_slots.Goals.{After-wide-x-in-loop-x, In-loop-x}

@@ -1,6 +1,6 @@
 -- Along the chain: x leads to the first entry of the region from a place on, and the slots of its entries before that place are rewritten.
 use Rattle.std.proofs.Common.{length, ◌≡◌}
-use Rattle.chains.specs.Walking.{ahead}
+use Rattle.chains.proofs.Walking.{ahead}
 use Rattle.settle.specs.RewriteSlots.{Along}
 use Rattle.settle.proofs.rewrite.rewrite_slots.Given as goal
 

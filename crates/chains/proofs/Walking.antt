@@ -12,8 +12,9 @@ use Rattle.layout.specs.Places.{entries_used, slot_region_in, first_in, next_in,
 use Rattle.remember.specs.Table.{Entry, region, nth_region, entries_in}
 use Rattle.remember.specs.TableWords.{to-long, to_at}
 use Rattle.chains.specs.Chains.{ChainsWhole}
-use Rattle.chains.specs.Firsts.{first_from, first-end, first-here, first-other, next-is, chains-long}
-use Rattle.chains.specs.Linking.{agreed-first, agreed-next}
+use Rattle.chains.specs.Firsts.{first_from}
+use Rattle.chains.proofs.Firsts.{first-end, first-here, first-other, next-is, chains-long}
+use Rattle.chains.proofs.Linking.{agreed-first, agreed-next}
 
 -- x is 1 + the place of the first entry of region g from place i on, 0 if there is none
 pub record Leads (g N : ℕ) (m : List ℕ) (i x : ℕ) : Type 0 where

@@ -10,9 +10,11 @@ use Rattle.layout.specs.Places.{entries_used, slot_region_in, first_at}
 use Rattle.remember.specs.Table.{Entry, region, nth_region, entries_in}
 use Rattle.remember.specs.TableWords.{to-long, to_at}
 use Rattle.chains.specs.Chains.{chains_of, ChainsWhole, with_chains}
-use Rattle.chains.specs.Firsts.{first_from, first-end, first-here, first-other, next_of, next-is, next-end}
-use Rattle.chains.specs.Linking.{Firsts, agreed, agreed-first, agreed-next}
-use Rattle.chains.specs.Walking.{whole_long}
+use Rattle.chains.specs.Firsts.{first_from, next_of}
+use Rattle.chains.proofs.Firsts.{first-end, first-here, first-other, next-is, next-end}
+use Rattle.chains.specs.Linking.{Firsts}
+use Rattle.chains.proofs.Linking.{agreed, agreed-first, agreed-next}
+use Rattle.chains.proofs.Walking.{whole_long}
 
 -- the table m with its entries from place k on, which were all of region g; none of the others is
 pub record CutsTo (g N k : ℕ) (m m' : List ℕ) : Type 0 where

@@ -10,7 +10,7 @@ use Rattle.layout.specs.Places.{entries_used, chains_words}
 use Rattle.remember.specs.Table.{entries_in}
 use Rattle.remember.specs.TableWords.{to-long}
 use Rattle.chains.specs.Chains.{chains_of, Listed, Chainable, ChainsWhole, chains_in, with_chains}
-use Rattle.chains.specs.Firsts.{first-end, next-end, chains-long, chain_first, chain_next}
+use Rattle.chains.proofs.Firsts.{first-end, next-end, chains-long, chain_first, chain_next}
 
 -- with the last region, as read
 module _ {s : Sizes} {m : List ℕ} (c : Chainable s m) {R : ℕ} (e : R ≡ regions s) where

@@ -8,7 +8,7 @@ use Rattle.script.specs.declared.Line.{Line}
 use Rattle.script.specs.declared.Line.TheVariants.{Numbers, Malformed}
 use Rattle.script.specs.Text.{onto, lines, parts, is_digit, digits_only, value_from, value, some, is_number, numbers_only, parts_say, says, text_says}
 use Rattle.script.specs.Writing.{spelt, decimal, row}
-use Rattle.script.specs.WritingLaws.{power-above}
+use Rattle.script.proofs.WritingLaws.{power-above}
 
 -- ---- a number
 

@@ -6,7 +6,8 @@ use Rattle.std.proofs.Math.Decide.{ℕ_discrete}
 use Rattle.lists.specs.Members.{In}
 use Rattle.remember.specs.Table.{Entry, nth_region, unused}
 use Rattle.chains.specs.Chains.{chains_of, places_of, followed}
-use Rattle.chains.specs.Firsts.{first_from, first-end, first-here, first-other, next_of, next-is, chain_first, chain_next}
+use Rattle.chains.specs.Firsts.{first_from, next_of}
+use Rattle.chains.proofs.Firsts.{first-end, first-here, first-other, next-is, chain_first, chain_next}
 
 abbrev places_from : ℕ → List Entry → ℕ → List ℕ
 places_from g es i = places_of g i (drop i es)

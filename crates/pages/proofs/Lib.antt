@@ -1,0 +1,2 @@
+pub mod NotedSearch
+pub mod Took
