@@ -9,7 +9,7 @@ use Rattle.layout.specs.Places.{most_regions, owners_from, owner_at, owner_of}
 use Rattle.layout.specs.Cells.{page_of}
 use Rattle.promises.proofs.TakeCell.{Took, page-past}
 use Rattle.pages.specs.Pages.{Free, NoneFrom, free_all}
-use Rattle.pages.specs.Noted.{Above, Noted, long, passed, passed_from, record, was}
+use Rattle.pages.specs.Noted.{Above, Noted, passed_from}
 
 module _ {p : Sizes} {t notes : List ℕ} {n page : ℕ} (h : Noted p t notes) (e : n ≡ passed_from p notes) (f : Free p t n page) where
   pub noted-free : Free p t p.pages page
