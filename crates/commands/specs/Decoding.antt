@@ -79,19 +79,6 @@ pub record Decodes (s : Sizes) (m : Command) (d : Decoded) : Type 0 where
   pub answer : decoded_answer d ≡ asked_answer s m
   pub command : d ≡ decoded_of s m
 
--- where the command that the code names is not refused yet
-decodes : (s : Sizes) (m : Command) {d : Decoded} → d ≡ decoded_of s m → (known (decode m.code) ≡ true → decoded_answer (named (decode m.code) m.thread m.a m.b m.c) ≡ done 0)
-    → Decodes s m d
-unfolding asked decoded_by ask
-decodes s m e z =
-    record { answer = ap decoded_answer e ∙ go (known (decode m.code)) (nat_lt m.thread s.threads) (operands (limits s) (decode m.code) m.a m.b m.c) _ z; command = e }
-  where
-    go : (k x y : Bool) (d : Decoded) → (k ≡ true → decoded_answer d ≡ done 0) → decoded_answer (known-then k (checked_by x y d)) ≡ record { number = ask k 6 (ask x 7 (ask y 8 0)); value = 0 }
-    go false x y d z = refl
-    go true false y d z = refl
-    go true true false d z = refl
-    go true true true d z = z refl
-
 ask-first : (k x y : Bool) (q : ℕ) → ask k 6 (ask x 7 (ask y 8 q)) ≡ first (ask k 6 (ask x 7 (ask y 8 0))) q
 unfolding ask
 ask-first false x y q = refl
@@ -122,35 +109,9 @@ decoded-named s m e =
     let d = named (decode m.code) m.thread m.a m.b m.c in
     ap₂ (λ (k x : Bool). known-then k (checked_by x o d)) r.0 r.1 ∙ ap (λ (y : Bool). checked_by true y d) r.2
 
--- an arm of the match: the operands as the code has them
-pub arm : (s : Sizes) (m : Command) (o : Code) (t a b c : ℕ) → decode m.code ≡ o → known o ≡ true → decoded_answer (named o t a b c) ≡ done 0
-    → t ≡ m.thread → a ≡ m.a → b ≡ m.b → c ≡ m.c
-    → (v : Bool) → v ≡ operands (limits s) o a b c → {r : Decoded} → r ≡ checked_by (nat_lt t s.threads) v (named o t a b c) → Decodes s m r
-unfolding decoded_by
-arm s m o t a b c e k z et ea eb ec v ev {r} er =
-    subst (λ (x : Command). Decodes s x r) (λ i. record { code = m.code; thread = et i; a = ea i; b = eb i; c = ec i })
-    (decodes s (record { code = m.code; thread = t; a = a; b = b; c = c })
-    (er ∙ ap₂ (λ (x y : Bool). known-then x (checked_by (nat_lt t s.threads) y (named o t a b c))) (sym k) ev ∙ ap (λ (x : Code). decoded_by s x t a b c) (sym e))
-    (λ y. subst (λ (x : Code). decoded_answer (named x t a b c) ≡ done 0) (sym e) z))
-
 -- a number past the codes is not known
-past-codes : (n : ℕ) → length codes ≤ n → decode n ≡ unknown
+pub past-codes : (n : ℕ) → length codes ≤ n → decode n ≡ unknown
 past-codes n h = get_or-eq_default codes unknown {n = n} h
-
-next_up : {n k : ℕ} → k ≤ n → (n ≢ k) → suc k ≤ n
-next_up h f = omega arith
-
-pub other-code : (s : Sizes) (m : Command) → (m.code ≢ 1) → (m.code ≢ 2) → (m.code ≢ 3) → (m.code ≢ 4) → (m.code ≢ 5) → (m.code ≢ 6)
-    → (m.code ≢ 7) → (m.code ≢ 8) → (m.code ≢ 9) → (m.code ≢ 10) → (m.code ≢ 11) → Decodes s m (Refused 6)
-unfolding decoded_by
-other-code s m a b c d e f g h i j k =
-    let u = go m.code refl in
-    decodes s m (sym (ap (λ (z : Code). decoded_by s z m.thread m.a m.b m.c) u)) (λ y. absurd (true-not-false (sym (ap known u) ∙ y)))
-  where
-    go : (n : ℕ) → m.code ≡ n → decode m.code ≡ unknown
-    go zero z = ap decode z
-    go (suc n) z =
-        past-codes m.code (next_up (next_up (next_up (next_up (next_up (next_up (next_up (next_up (next_up (next_up (next_up (omega arith) a) b) c) d) e) f) g) h) i) j) k)
 
 -- ---- back from a decoded command to its words
 

@@ -8,7 +8,6 @@ use Rattle.rules.specs.Terms.{refused, done}
 use Rattle.layout.specs.Words.{Words, words, heap_of}
 use Rattle.promises.specs.Whole.{WholeFor}
 use Rattle.promises.specs.Promises.{DidHere}
-use Rattle.promises.proofs.Questions.{did-answer, did-asked}
 use Rattle.commands.specs.declared.Decoded.{Decoded}
 use Rattle.commands.specs.declared.Decoded.TheVariants.{End, Collect, Refused}
 use Rattle.commands.specs.declared.Obeyed.{Obeyed}
@@ -57,8 +56,3 @@ module _ (p : Sizes) (c m t : List ℕ) (x : Command) (d : Decoded) (g : Decodes
 
   pub collects : (u : ℕ) → d ≡ Collect u → Obeys p c m t x c m t (Collects u)
   collects u f = left (Collects u) (Collect u) f refl refl
-
-  pub not-obeyed : WholeFor p (words c m t) → (q : ℕ) → d ≡ Refused q → {a : Answer} → a ≡ refused q → Obeys p c m t x c m t (Answered a)
-  not-obeyed r q f h =
-      let e = subst (Decodes p x) f g in
-      did-answer h (did-asked p (words c m t) r x q (refused-number q e) (decoded-refused q e (heap_of p (words c m t)).heap))

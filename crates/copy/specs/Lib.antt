@@ -6,4 +6,3 @@ pub mod Moves
 pub mod Passing
 pub mod Copying
 pub mod Forward
-pub mod Placement

@@ -24,7 +24,7 @@ use Rattle.ended.specs.EndQuestion.{pages_needed}
 use Rattle.ending.specs.MarkedReady.{pages-same}
 use Rattle.ending.specs.PagesEnough.{free-same, needs-are}
 use Rattle.copy.specs.Copying.{Plan, Copy}
-use Rattle.copy.specs.Placement.{GoalsMarked, copy-pages, copy-cells, copy-still}
+use Rattle.copy.proofs.Placement.{GoalsMarked, copy-pages, copy-cells, copy-still}
 use Rattle.ending.specs.Copied.{HasMoved, placed, placed-still, placed-moved, outside-idle, on}
 use Rattle.ending.specs.Ending.{Ending, room_of}
 

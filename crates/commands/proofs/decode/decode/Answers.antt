@@ -3,7 +3,8 @@ use Rattle.rules.specs.Terms.{decode, start, end, new, copy, clear, load, store,
 use Rattle.rules.specs.NeverFreeing.{operands}
 use Rattle.layout.specs.Cells.{most-is}
 use Rattle.commands.specs.declared.Decoded.TheVariants.{End, Collect}
-use Rattle.commands.specs.Decoding.{checked_by, arm, other-code}
+use Rattle.commands.specs.Decoding.{checked_by}
+use Rattle.commands.proofs.Arms.{arm, other-code}
 use Rattle.commands.proofs.decode.decode.Goals as goal
 
 pub overflow_add-b : goal.overflow_add-b

@@ -3,7 +3,8 @@ use Rattle.std.proofs.Common.{refl}
 use Rattle.commands.specs.declared.Decoded.TheVariants.{Start, New, Copy, Clear, Load, Store, Read, Write, Same}
 use Rattle.chains.proofs.LentChains.{chains-same}
 use Rattle.pages.specs.Noted.{noted-kept}
-use Rattle.commands.specs.Obeys.{in-range, obeyed, ends, collects, not-obeyed}
+use Rattle.commands.specs.Obeys.{in-range, obeyed, ends, collects}
+use Rattle.commands.proofs.NotObeyed.{not-obeyed}
 use Rattle.commands.proofs.obey.obey.Goals as goal
 
 pub start-requires : goal.start-requires
