@@ -1,5 +1,5 @@
 -- The survivors of an end are copied to the cells that the rules give them, and its pages after the release are those that the rules leave (02, W3).
-use Rattle.std.specs.Prelude.{◌≡◌, List, Bool, ℕ, ◌+◌, ◌-◌, ◌<◌}
+use Rattle.std.specs.Prelude.{◌≡◌, List, Bool, ℕ, ◌+◌, ◌<◌}
 use Rattle.std.proofs.Math.Path.{sym, ap}
 use Rattle.std.proofs.Common.{ap₂, ◌∙◌, ⊎_elim, arith, add-one, eq-eqb, ne_eqb}
 use Rattle.std.proofs.Math.Bool.{cond}

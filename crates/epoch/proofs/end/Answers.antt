@@ -1,5 +1,5 @@
 -- No epoch is open, nothing survives, or the marked words are ended.
-use Rattle.std.proofs.Common.{ℕ, ◌^◌, ◌<◌, false, ◌≡◌, sym, ◌∙◌, arith, length}
+use Rattle.std.proofs.Common.{ℕ, ◌<◌, false, ◌≡◌, sym, ◌∙◌, arith}
 use Rattle.layout.specs.Places.{depth_of, mark_of}
 use Rattle.layout.specs.Words.{Words, words}
 use Rattle.chains.proofs.LentChains.{chains-same}

@@ -1,5 +1,4 @@
-use Rattle.std.proofs.Common.{◌-◌, ◌*◌, lt-length-set, refl, ◌∙◌, length, arith}
-use Rattle.promises.specs.Promises.{size}
+use Rattle.std.proofs.Common.{◌*◌, lt-length-set, refl, ◌∙◌, arith}
 use Rattle.promises.specs.Reading.{sizes-there}
 use Rattle.promises.specs.Chained.{asked-whole}
 use Rattle.pages.specs.Noted.{noted-start}

@@ -1,4 +1,4 @@
-use Rattle.std.proofs.Common.{◌-◌, ◌∙◌, arith}
+use Rattle.std.proofs.Common.{◌∙◌, arith}
 use Rattle.lists.specs.Says.{said-no}
 use Rattle.layout.specs.Words.{depths_at}
 use Rattle.report.specs.Opened.{none-next, open-yes, open_no, last-region}

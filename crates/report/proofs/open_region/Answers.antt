@@ -1,5 +1,5 @@
-use Rattle.std.proofs.Common.{ℕ, ◌-◌, sym, ◌∙◌, subst, arith}
-use Rattle.lists.specs.Counting.{sum, sum_more}
+use Rattle.std.proofs.Common.{ℕ, sym, ◌∙◌, subst, arith}
+use Rattle.lists.specs.Counting.{sum_more}
 use Rattle.rules.specs.Regions.{region_at}
 use Rattle.layout.specs.Places.{depth_of}
 use Rattle.layout.specs.Words.{depths_at}

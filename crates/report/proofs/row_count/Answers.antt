@@ -1,4 +1,4 @@
-use Rattle.std.proofs.Common.{◌≡◌, ◌+◌, ◌-◌, refl, ap, ◌∙◌, arith}
+use Rattle.std.proofs.Common.{◌≡◌, ◌+◌, refl, ap, ◌∙◌, arith}
 use Rattle.lists.specs.Counting.{sum, sum_more}
 use Rattle.layout.specs.Places.{depth_of}
 use Rattle.report.specs.Tables.{tables-room-of}

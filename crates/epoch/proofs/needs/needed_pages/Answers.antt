@@ -1,4 +1,4 @@
-use Rattle.std.proofs.Common.{◌-◌, ◌≡◌, refl, ap, ◌∙◌, arith, get_or}
+use Rattle.std.proofs.Common.{◌≡◌, refl, ap, ◌∙◌, arith, get_or}
 use Rattle.lists.specs.Counting.{sum_more}
 use Rattle.rules.specs.Regions.{region_at}
 use Rattle.laws.specs.RegionLaws.{region-bounds}

@@ -1,9 +1,7 @@
-use Rattle.std.proofs.Common.{◌≡◌, ◌<◌, ◌≤◌, List, length, slice_index_or, slice_set, sym, ap₂, ◌∙◌, arith}
-use Rattle.rules.specs.Regions.{regions}
+use Rattle.std.proofs.Common.{◌<◌, List, length, slice_set, sym, ap₂, ◌∙◌, arith}
 use Rattle.layout.specs.Places.{sizes_at}
 use Rattle.layout.specs.Words.{depths_at}
 use Rattle.report.specs.declared.Row.{Row}
-use Rattle.report.specs.Report.{no_row}
 use Rattle.report.specs.Opened.{turn-first, turn-next, turn-high, turn-row}
 use Rattle.report.specs.Tables.{rows_in}
 use Rattle.report.specs.Lent.{RegionOf, written_none, written_next}

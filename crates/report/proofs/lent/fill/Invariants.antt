@@ -1,5 +1,5 @@
 -- The first k rows are written, and the region at hand is open region k.
-use Rattle.std.proofs.Common.{◌≡◌, ◌-◌, ◌<◌, ◌≤◌}
+use Rattle.std.proofs.Common.{◌≡◌, ◌-◌, ◌≤◌}
 use Rattle.layout.specs.Places.{sizes_at}
 use Rattle.layout.specs.Words.{depths_at}
 use Rattle.report.specs.Opened.{Turn}

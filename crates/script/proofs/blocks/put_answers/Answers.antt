@@ -1,4 +1,4 @@
-use Rattle.std.proofs.Common.{◌+◌, ◌*◌, ◌-◌, ◌≤◌, ◌≡◌, refl, ap, arith, length}
+use Rattle.std.proofs.Common.{◌+◌, ◌*◌, ◌≤◌, ◌≡◌, refl, ap, arith, length}
 use Rattle.script.proofs.WritingLaws.{put-text}
 use Rattle.script.specs.Blocks.{stacked, answer_line}
 use Rattle.script.proofs.Stacked.{stack-none, stack-end, stack-answer}

@@ -1,4 +1,4 @@
-use Rattle.std.proofs.Common.{◌-◌, refl, sym, ◌∙◌, arith}
+use Rattle.std.proofs.Common.{refl, sym, ◌∙◌, arith}
 use Rattle.script.specs.BlocksCases.{took, fill_more, fill-full, fill_on, fill-broken, fill_done}
 use Rattle.script.proofs.blocks.read_block.Goals as goal
 

@@ -1,4 +1,4 @@
-use Rattle.std.proofs.Common.{◌-◌, refl, sym, ◌∙◌, arith}
+use Rattle.std.proofs.Common.{refl, sym, ◌∙◌, arith}
 use Rattle.script.specs.ReadingCases.{scan-more, scan-found, scan-open}
 use Rattle.script.proofs.read.read_line.Goals as goal
 

@@ -1,5 +1,5 @@
-use Rattle.std.proofs.Common.{◌-◌, arith, length, length-set}
-use lib.Seq.{paste, paste-zero}
+use Rattle.std.proofs.Common.{arith, length-set}
+use lib.Seq.{paste-zero}
 use Rattle.script.proofs.WritingLaws.{copy-byte, copied}
 use Rattle.script.proofs.write.put_bytes.Goals as goal
 
