@@ -11,7 +11,6 @@ use Rattle.remember.specs.TableWords.{length-padded, get_d-padded}
 use Rattle.chains.specs.Chains.{first_of, nexts_of, chains_of}
 use Rattle.chains.specs.Firsts.{first_from, next_of}
 
-
 module _ (g : ℕ) (es : List Entry) (i : ℕ) where
   pub first-end : length es ≤ i → first_from g es i ≡ 0
   unfolding first_of
@@ -41,7 +40,6 @@ next-at k (e ∷ es) zero l = let q : k ≡ k + 0 = omega arith in ap (λ (j : �
 next-at k (e ∷ es) (suc i) l =
     let q : suc k + i ≡ k + suc i = omega arith in
     next-at (suc k) es i (omega arith) ∙ ap (λ (j : ℕ). first_of (nth_region es i) (suc j) (drop (suc i) es)) q
-
 
 pub next-is : (es : List Entry) (i : ℕ) → i < length es → next_of es i ≡ first_from (nth_region es i) es (suc i)
 next-is es i l = next-at 0 es i l ∙ ap (λ (j : ℕ). first_of (nth_region es i) (suc j) (drop (suc i) es)) (zero-add i)

@@ -14,7 +14,6 @@ use Rattle.chains.specs.Firsts.{first_from, next_of}
 use Rattle.chains.proofs.Firsts.{first-end, first-here, first-other, next-is, next-end, chains-long, chain_first, chain_next}
 use Rattle.chains.specs.Linking.{Firsts, NextsAgree}
 
-
 pub firsts-none : {R : ℕ} (es : List Entry) {i : ℕ} (w : List ℕ) → length es ≤ i → ((r : ℕ) → r < R → get_or w r 0 ≡ 0) → Firsts R es i w
 firsts-none es {i} w l z r h = z r h ∙ sym (first-end (suc r) es i l)
 
@@ -166,7 +165,6 @@ module _ (R N : ℕ) (es : List Entry) (f : List ℕ) (few : length es ≤ N) (r
   agreed-next e j h = at e (R + j) (omega arith) ∙ chain_next R N es few j
 
 -- ---- whether the words are those of the chains
-
 
 next-right : (R : ℕ) (es : List Entry) (f : List ℕ) (i : ℕ) → 0 < i → get_or f (R + (i - 1)) 0 ≡ next_of es (i - 1)
     → ((j : ℕ) → i ≤ j → j < length es → get_or f (R + j) 0 ≡ next_of es j) → (j : ℕ) → i - 1 ≤ j → j < length es → get_or f (R + j) 0 ≡ next_of es j
