@@ -15,14 +15,7 @@ use Rattle.chains.proofs.Firsts.{first-end, first-here, first-other, next-is, ne
 use Rattle.chains.specs.Linking.{Firsts}
 use Rattle.chains.proofs.Linking.{agreed, agreed-first, agreed-next}
 use Rattle.chains.proofs.Walking.{whole_long}
-
--- the table m with its entries from place k on, which were all of region g; none of the others is
-pub record CutsTo (g N k : ℕ) (m m' : List ℕ) : Type 0 where
-  pub low : k ≤ entries_used m
-  pub used : entries_used m' ≡ k
-  pub same : (i : ℕ) → i < k → slot_region_in N m' i ≡ slot_region_in N m i
-  pub others : (i : ℕ) → i < k → slot_region_in N m i ≡ g → ⊥
-  pub gone : (i : ℕ) → k ≤ i → i < entries_used m → slot_region_in N m i ≡ g
+use Rattle.chains.specs.Cutting.{CutsTo}
 
 module _ {g N k : ℕ} {m m' : List ℕ} (c : CutsTo g N k m m') where
   abbrev es : List Entry

@@ -2,7 +2,8 @@
 
 -- definitions: what must be read
 pub mod Chains
--- laws
+-- definitions that the laws (proofs/) speak of
 pub mod Firsts
 pub mod Linking
 pub mod ChainsExample
+pub mod Cutting

@@ -5,8 +5,5 @@ pub mod Numbering
 -- the tables after them, then the cells
 pub mod TablesAfter
 pub mod Sliding
--- the places that the rules give, and the promise
+-- the places that the rules give; what each stage asks for, and the promise, stand in proofs/
 pub mod PlacesByRules
-pub mod CollectDid
--- what each stage asks for
-pub mod StagesAsk

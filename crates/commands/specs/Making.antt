@@ -24,7 +24,8 @@ use Rattle.promises.proofs.Questions.{did-refused, did-moved}
 use Rattle.promises.proofs.NewPages.{innermost-pos, innermost-low, innermost-open, PartlyFilled, FreePage, new-fits, new-lacks}
 use Rattle.promises.specs.Changes.{with_tables, with_variable, with_new}
 use Rattle.promises.specs.Areas.{beyond-both}
-use Rattle.promises.proofs.TakeCell.{Took, took-made}
+use Rattle.promises.specs.TakeCell.{Took}
+use Rattle.promises.proofs.TakeCell.{took-made}
 use Rattle.promises.proofs.NewCell.{Blank, blanked, new-only, new-whole}
 use Rattle.promises.proofs.FrameVariable.{variable-only}
 use Rattle.promises.proofs.FrameNew.{Takes, blank_object, made-stands, to-old, with_cell}

@@ -9,7 +9,7 @@ use Rattle.layout.specs.Cells.{page_of, page_cells}
 use Rattle.pages.specs.Pages.{Found}
 use Rattle.promises.specs.Regular.{Regular, SamePage}
 use Rattle.promises.specs.Whole.{Partial}
-use Rattle.promises.proofs.TakeCell.{Took}
+use Rattle.promises.specs.TakeCell.{Took}
 use Rattle.copy.specs.Taking.{Usable, Next}
 
 -- page q has no room

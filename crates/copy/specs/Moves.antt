@@ -18,7 +18,8 @@ use Rattle.promises.specs.Regular.{Regular, SamePage, objects-same}
 use Rattle.promises.specs.OwnedPages.{owned_one, owned_in, owned-same}
 use Rattle.promises.specs.Areas.{owner_words, used_words, mark_words, Only, store-only, mark-in}
 use Rattle.promises.proofs.Frames.{regular-frame}
-use Rattle.promises.proofs.TakeCell.{Took, took-only, took-used, took-unused, still-used, used-split, owner-used, took-objects, took-objects-other, took-regular}
+use Rattle.promises.specs.TakeCell.{Took}
+use Rattle.promises.proofs.TakeCell.{took-only, took-used, took-unused, still-used, used-split, owner-used, took-objects, took-objects-other, took-regular}
 use Rattle.pages.specs.Noted.{NoneFreed, took-none-freed}
 use Rattle.copy.specs.Marks.{marks_at, copied, raised, raised-off, raised-on, raised-other}
 use Rattle.copy.specs.Cursor.{Points, took-points, points-same}

@@ -11,7 +11,8 @@ use Rattle.promises.specs.Whole.{Partial, objects_of}
 use Rattle.promises.specs.Regular.{Regular}
 use Rattle.promises.specs.OwnedPages.{owned_one, owned_in, owned-yes, owned-no, owned-is, owned-same}
 use Rattle.promises.proofs.OwnedPages.{owned, some-partly}
-use Rattle.promises.proofs.TakeCell.{Source, Took, page-past, took-regular}
+use Rattle.promises.specs.TakeCell.{Source, Took}
+use Rattle.promises.proofs.TakeCell.{page-past, took-regular}
 use Rattle.pages.specs.Pages.{Found}
 
 -- g has a page with room, or there is a free page

@@ -25,7 +25,8 @@ use Rattle.promises.specs.Reading.{used-home}
 use Rattle.promises.specs.Agreed.{targets-agree, cell-used}
 use Rattle.promises.specs.WordsOf.{laid}
 use Rattle.promises.proofs.Laid.{whole-laid}
-use Rattle.ended.specs.CollectedDid.{collect_of, after-collect, collect-accepted}
+use Rattle.ended.specs.CollectedDid.{collect_of}
+use Rattle.ended.proofs.CollectedDid.{after-collect, collect-accepted}
 use Rattle.demand.specs.Compact.{Compact, collected-again}
 
 -- ---- the pages of the control space that objects fill

@@ -29,8 +29,9 @@ use Rattle.promises.specs.StandsFor.{StandsFor}
 use Rattle.promises.specs.Reading.{alive-used, used-home}
 use Rattle.promises.specs.Agreed.{home-at, heap-stands, targets-agree}
 use Rattle.ended.specs.Evacuated.{goal_in}
-use Rattle.ended.specs.Repacking.{goal-of}
-use Rattle.ended.specs.CollectedDid.{collect_of, after-collect}
+use Rattle.ended.proofs.Repacking.{goal-of}
+use Rattle.ended.specs.CollectedDid.{collect_of}
+use Rattle.ended.proofs.CollectedDid.{after-collect}
 
 -- every object of the control space has a holder, its pages but the highest are full, and freed is counted modulo 4,294,967,296
 pub record Compact (s : Sizes) (w : Words) : Type 0 where

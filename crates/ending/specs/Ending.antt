@@ -13,7 +13,8 @@ use Rattle.promises.specs.Promises.{DidHere}
 use Rattle.promises.specs.Ends.{part_of}
 use Rattle.mark.specs.Survivors.{Marked}
 use Rattle.ended.specs.Evacuated.{Evacuated, Vacated, FreedCounted, Repacked}
-use Rattle.ended.specs.EvacuatedDid.{Lowered, ended-did}
+use Rattle.ended.specs.EvacuatedDid.{Lowered}
+use Rattle.ended.proofs.EvacuatedDid.{ended-did}
 use Rattle.ended.specs.EndQuestion.{pages_needed, crossing_after}
 use Rattle.ended.specs.AfterEnd.{end_of}
 use Rattle.mark.specs.MarkedWords.{depth_same}

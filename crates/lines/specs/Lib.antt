@@ -4,5 +4,4 @@
 pub mod Lines
 -- from what the callees promise to each step
 pub mod Changes
-pub mod FirstLine
 pub mod Reporting

@@ -17,7 +17,7 @@ use Rattle.promises.specs.Crossings.{heap-entries}
 use Rattle.report.specs.declared.Row.{Row}
 use Rattle.report.specs.Report.{rows, no_row, total_of}
 use Rattle.report.specs.Tables.{WholeTables, rows_in, free_in}
-use Rattle.report.specs.Stands.{rows-stand, free-stands, made-stands, freed-stands}
+use Rattle.report.proofs.Stands.{rows-stand, free-stands, made-stands, freed-stands}
 use Rattle.script.specs.Writing.{row, Put}
 use Rattle.script.proofs.WritingLaws.{word-length, put-text, put-put}
 use Rattle.script.specs.Blocks.{stacked}

@@ -7,7 +7,8 @@ use Rattle.std.proofs.Math.Decide.{ℕ_discrete, dec_lt}
 use Rattle.rules.specs.declared.Sizes.{Sizes}
 use Rattle.layout.specs.Places.{most_regions, owners_from, owner_at, owner_of}
 use Rattle.layout.specs.Cells.{page_of}
-use Rattle.promises.proofs.TakeCell.{Took, page-past}
+use Rattle.promises.specs.TakeCell.{Took}
+use Rattle.promises.proofs.TakeCell.{page-past}
 use Rattle.pages.specs.Pages.{Free, NoneFrom, free_all}
 use Rattle.pages.specs.Noted.{Above, Noted, passed_from}
 

@@ -7,7 +7,8 @@ use Rattle.rules.specs.Regions.{regions}
 use Rattle.layout.specs.Places.{owner_at, used_at, count_at, used_of, count_of, made_of}
 use Rattle.layout.specs.Cells.{cell_on, page_cells}
 use Rattle.promises.specs.Regular.{Regular}
-use Rattle.promises.proofs.TakeCell.{Took, took-own, took-free}
+use Rattle.promises.specs.TakeCell.{Took}
+use Rattle.promises.proofs.TakeCell.{took-own, took-free}
 use Rattle.pages.specs.Pages.{Found, taken}
 
 module _ {s : Sizes} {t : List ℕ} (r : Regular s t) {g page : ℕ} (low : page < s.pages) where

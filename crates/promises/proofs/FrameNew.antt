@@ -29,7 +29,7 @@ use Rattle.promises.specs.Agreed.{cell-used}
 use Rattle.promises.specs.Changes.{with_tables, with_new, with_variable}
 use Rattle.promises.specs.Areas.{owner_words, used_words, count_words, made_words, freed_words, unused_words, Only}
 use Rattle.promises.proofs.Frames.{depths-same, vars-same, fields-same}
-use Rattle.promises.proofs.TakeCell.{Took}
+use Rattle.promises.specs.TakeCell.{Took}
 use Rattle.promises.proofs.NewCell.{Blank, new-begins, not_there, still-begins, begins-split, owner-still, new-only, new-whole}
 use Rattle.promises.proofs.FrameVariable.{variable-stands}
 

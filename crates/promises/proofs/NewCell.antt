@@ -22,7 +22,8 @@ use Rattle.promises.proofs.Frames.{sized-frame, depths-frame, marks-frame, objec
 use Rattle.remember.specs.Entries.{exact-everywhere}
 use Rattle.promises.specs.Slots.{region-of, slot-stays, cross-same}
 use Rattle.promises.specs.Regular.{whole-regular}
-use Rattle.promises.proofs.TakeCell.{Took, took-only, took-used, took-unused, took-not-in-use, took-covers, still-used, used-split, owner-used, took-live, took-regular, took-pages}
+use Rattle.promises.specs.TakeCell.{Took}
+use Rattle.promises.proofs.TakeCell.{took-only, took-used, took-unused, took-not-in-use, took-covers, still-used, used-split, owner-used, took-live, took-regular, took-pages}
 
 -- the words of a new object, the first of them given, and all others as they were
 pub record Blank (c : List ℕ) (cell word : ℕ) (c' : List ℕ) : Type 0 where

@@ -16,7 +16,8 @@ use Rattle.layout.specs.Words.{page_in, pages_at, pages-count, page-there}
 use Rattle.promises.specs.Whole.{Partial}
 use Rattle.promises.specs.Regular.{Regular, SamePage, one}
 use Rattle.promises.specs.OwnedPages.{owned_one, owned_in}
-use Rattle.promises.proofs.TakeCell.{Source, Took, page-past}
+use Rattle.promises.specs.TakeCell.{Source, Took}
+use Rattle.promises.proofs.TakeCell.{page-past}
 
 -- ---- the tests, in words
 

@@ -2,6 +2,7 @@
 
 -- definitions: what must be read
 pub mod Report
+pub mod Told
 -- and what they give in four runs
 pub mod Examples
 -- what the tables say
@@ -9,11 +10,7 @@ pub mod Tables
 -- the numbers that pass a test, and the open regions one after the other
 pub mod Passing
 pub mod Opened
--- the total of live objects
-pub mod Totals
--- the tables say what the rules say of every heap
-pub mod Stands
 -- the rows in a lent list
 pub mod Lent
--- the promise of every heap, and that it leaves nothing free
-pub mod Told
+
+-- that the tables say what the rules say of every heap, and the promise, stand in proofs/

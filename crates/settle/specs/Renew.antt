@@ -14,7 +14,7 @@ use Rattle.remember.specs.Entries.{Rising}
 use Rattle.remember.specs.Filtered.{Unchanged}
 use Rattle.remember.specs.Staying.{new_region, new-stays, new-bound}
 use Rattle.chains.specs.Chains.{Chainable, ChainsWhole}
-use Rattle.chains.proofs.Cutting.{CutsTo}
+use Rattle.chains.specs.Cutting.{CutsTo}
 use Rattle.promises.proofs.WholeChains.{other-low}
 use Rattle.settle.specs.Update.{Settles, Updated, NewEntry}
 use Rattle.settle.specs.Touched.{NotOwn, Chained, not_own, others, untouched}

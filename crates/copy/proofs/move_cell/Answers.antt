@@ -6,7 +6,7 @@ use Rattle.layout.specs.Places.{mark_at, mark_of, used_of, made_of}
 use Rattle.layout.specs.Cells.{cell_on, place_of, page_cells, cell_in}
 use Rattle.layout.specs.Objects.{begins-page}
 use Rattle.promises.proofs.OwnedPages.{count_fits}
-use Rattle.promises.proofs.TakeCell.{Took}
+use Rattle.promises.specs.TakeCell.{Took}
 use Rattle.pages.specs.Pages.{taken}
 use Rattle.pages.proofs.Took.{taken-took}
 use Rattle.copy.specs.Marks.{marks_at, raised, clear-fresh}

@@ -1,5 +1,5 @@
 -- prepare refuses exactly the sizes that are not accepted, since the slices are as long as those want them.
-use Rattle.lines.specs.FirstLine.{prepared-begun, malformed-begun, begun-as}
+use Rattle.lines.proofs.FirstLine.{prepared-begun, malformed-begun, begun-as}
 use Rattle.lines.proofs.prepare.Goals as goal
 
 pub returns-in-Numbers : goal.returns-in-Numbers

@@ -1,6 +1,6 @@
 use Rattle.std.proofs.Common.{◌+◌, ◌*◌, ◌≤◌, ◌<◌, ◌≡◌, refl, ◌∙◌, arith, length}
 use Rattle.report.specs.Tables.{rows_in}
-use Rattle.report.specs.Stands.{rows_few}
+use Rattle.report.proofs.Stands.{rows_few}
 use Rattle.lines.specs.Reporting.{rows_none, row-end, row_next, rows_all}
 use Rattle.lines.proofs.put_rows.Goals as goal
 

@@ -5,7 +5,7 @@ use Rattle.layout.specs.Places.{depth_of}
 use Rattle.layout.specs.Words.{depths_at}
 use Rattle.report.specs.Opened.{Turn, turn-first}
 use Rattle.report.specs.Tables.{tables-room-of, threads-low}
-use Rattle.report.specs.Stands.{not_last, turn_at}
+use Rattle.report.proofs.Stands.{not_last, turn_at}
 use Rattle.report.proofs.open_region.Goals as goal
 
 pub returns-then-k-eq0 : goal.returns-then-k-eq0

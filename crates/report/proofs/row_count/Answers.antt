@@ -2,7 +2,7 @@ use Rattle.std.proofs.Common.{◌≡◌, ◌+◌, refl, ap, ◌∙◌, arith}
 use Rattle.lists.specs.Counting.{sum, sum_more}
 use Rattle.layout.specs.Places.{depth_of}
 use Rattle.report.specs.Tables.{tables-room-of}
-use Rattle.report.specs.Stands.{row-count}
+use Rattle.report.proofs.Stands.{row-count}
 use Rattle.report.proofs.row_count.Goals as goal
 
 pub loop-thread-init : goal.loop-thread-init

@@ -1,7 +1,7 @@
 -- The difference of the two counters.
 use Rattle.std.proofs.Common.{◌≡◌, ◌+◌, ◌%◌, ◌^◌, ◌<◌, length, arith}
 use Rattle.report.specs.Tables.{tables-room-of}
-use Rattle.report.specs.Totals.{total-less}
+use Rattle.report.proofs.Totals.{total-less}
 use Rattle.report.proofs.total.Goals as goal
 
 pub returns : goal.returns

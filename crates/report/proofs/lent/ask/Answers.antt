@@ -5,8 +5,9 @@ use Rattle.promises.specs.Slices.{slices}
 use Rattle.promises.specs.Reading.{sizes-there, entries-there}
 use Rattle.promises.proofs.WholeChains.{read-chainable, found-whole}
 use Rattle.report.specs.Tables.{whole-tables}
-use Rattle.report.specs.Stands.{rows_few}
-use Rattle.report.specs.Lent.{Asking, asking-not-whole, asking-other, asking-short, asking-all}
+use Rattle.report.proofs.Stands.{rows_few}
+use Rattle.report.specs.Lent.{Asking}
+use Rattle.report.proofs.LentRows.{asking-not-whole, asking-other, asking-short, asking-all}
 use Rattle.report.proofs.lent.ask.Goals as goal
 
 pub returns-then-not-whole : goal.returns-then-not-whole

@@ -2,7 +2,7 @@ use Rattle.std.proofs.Common.{List, sym, subst}
 use Rattle.promises.specs.Slices.{slices}
 use Rattle.report.specs.declared.Row.{Row}
 use Rattle.report.specs.Report.{Told}
-use Rattle.report.specs.Lent.{asked-few, told-written}
+use Rattle.report.proofs.LentRows.{asked-few, told-written}
 use Rattle.report.proofs.lent.taldreku_report.Goals as goal
 
 pub fill-requires : goal.fill-requires

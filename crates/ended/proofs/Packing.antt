@@ -20,7 +20,7 @@ use Rattle.promises.specs.Whole.{WholeFor}
 use Rattle.promises.specs.StandsFor.{Occupies}
 use Rattle.promises.specs.Ends.{part_of, Lives}
 use Rattle.ended.specs.Evacuated.{goal_in, slides_in, Packed}
-use Rattle.ended.specs.Repacking.{cell-here, inside, goal-of}
+use Rattle.ended.proofs.Repacking.{cell-here, inside, goal-of}
 
 module _ (s : Sizes) (w : Words) (whole : WholeFor s w) where
   abbrev H : Regioned

@@ -38,7 +38,8 @@ use Rattle.retell.specs.SlotStretches.{Readable, readable}
 use Rattle.retell.specs.RetellingSlots.{IsCrossing}
 use Rattle.ended.specs.Evacuated.{Evacuated, FreedCounted}
 use Rattle.ended.specs.Living.{region-after}
-use Rattle.ended.specs.CollectedDid.{collect_of, collected-did}
+use Rattle.ended.specs.CollectedDid.{collect_of}
+use Rattle.ended.proofs.CollectedDid.{collected-did}
 use Rattle.ending.specs.Placing.{Placing}
 use Rattle.ending.specs.Crossing.{live_here, cross-here}
 use Rattle.ending.specs.Space.{Crosses, space-enough}

@@ -28,7 +28,7 @@ use Rattle.promises.proofs.Preparing.{prepared-is}
 use Rattle.promises.specs.Chained.{chained}
 use Rattle.demand.specs.DemandThree.{Block, Runs, stop, next, refusal, Refusals, less, given, replies, Paired, Followed, Traced, DemandThree}
 use Rattle.demand.specs.Pairing.{pairs_of, stands-paired}
-use Rattle.demand.specs.Following.{did-changes}
+use Rattle.demand.proofs.Following.{did-changes}
 
 -- ---- the commands of a block
 

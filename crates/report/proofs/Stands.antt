@@ -19,7 +19,7 @@ use Rattle.report.specs.Report.{is_open, open_regions, row_with, rows, total_of}
 use Rattle.report.specs.Passing.{map-passing}
 use Rattle.report.specs.Opened.{Turn, rows-counted, turn_level}
 use Rattle.report.specs.Tables.{WholeTables, row_in, rows_in, free_in}
-use Rattle.report.specs.Totals.{total_left}
+use Rattle.report.proofs.Totals.{total_left}
 
 module _ (p : Sizes) (t : List ℕ) (k : WholeTables p t) where
   abbrev depths : List ℕ

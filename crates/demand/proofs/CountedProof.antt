@@ -31,9 +31,9 @@ use Rattle.promises.specs.Promises.{Became, Did, Chain, none, more, commands_in,
 use Rattle.promises.specs.Reading.{depth-at, words-closed}
 use Rattle.promises.specs.Agreed.{heap-stands, whole_words}
 use Rattle.promises.proofs.Preparing.{prepared-is}
-use Rattle.report.specs.Told.{told-counted}
+use Rattle.report.proofs.Told.{told-counted}
 use Rattle.demand.specs.DemandThree.{Block, Runs, stop, next}
-use Rattle.demand.specs.Demand.{all_runs}
+use Rattle.demand.proofs.Demand.{all_runs}
 use Rattle.demand.specs.Counted.{made_one, made_by, objects_made, freed_on, freed_one, freed_through, freed_run, objects_freed, Counted}
 
 -- whole words whose counters say that n objects were made and f freed

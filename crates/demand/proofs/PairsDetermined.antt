@@ -22,7 +22,7 @@ use Rattle.promises.specs.Chained.{asked-whole, did-whole}
 use Rattle.demand.specs.DemandThree.{Block, Runs, stop, next, Moves, PairsAfter, Changes, Followed, Traced}
 use Rattle.demand.specs.Pairing.{pairs_of, pair-alive, stands-paired}
 use Rattle.demand.specs.MovesUnique.{moves-unique}
-use Rattle.demand.specs.Following.{did-changes}
+use Rattle.demand.proofs.Following.{did-changes}
 
 -- every pair leads to an object's cell
 abbrev pub Living : Sizes → Words → List ℕ → Type 0

@@ -1,0 +1,2 @@
+pub mod CollectDid
+pub mod StagesAsk

@@ -1,0 +1,5 @@
+pub mod CountedProof
+pub mod Demand
+pub mod Following
+pub mod LedTo
+pub mod PairsDetermined

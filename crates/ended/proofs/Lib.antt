@@ -1,0 +1,5 @@
+pub mod Packing
+pub mod Repacking
+pub mod EvacuatedDid
+pub mod EvacuatedCounts
+pub mod CollectedDid

@@ -1,0 +1,4 @@
+pub mod Totals
+pub mod Told
+pub mod Stands
+pub mod LentRows
