@@ -21,7 +21,7 @@ use Rattle.report.specs.Report.{no_row, rows, row_count, ReportAsked, not_whole,
 use Rattle.report.specs.Tables.{WholeTables, row_in, open_in, rows_in, whole-tables, free_in}
 use Rattle.report.proofs.Stands.{rows-stand, free-stands, made-stands, freed-stands, total-stands}
 use Rattle.report.specs.declared.Reported.{Reported}
-use Rattle.report.specs.Lent.{Asking, asked, result, written, written_all, written_none}
+use Rattle.report.specs.Lent.{Asking, written, written_all, written_none}
 
 -- the rows of the tables are those of the heap that the words make
 module _ (w : Words) where
