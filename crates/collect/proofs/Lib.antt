@@ -1,2 +1,1 @@
-pub mod CollectDid
-pub mod StagesAsk
+pub mod CollectPromised

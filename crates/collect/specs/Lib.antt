@@ -5,5 +5,8 @@ pub mod Numbering
 -- the tables after them, then the cells
 pub mod TablesAfter
 pub mod Sliding
--- the places that the rules give; what each stage asks for, and the promise, stand in proofs/
+-- the places that the rules give, and the account of the stages; the promise stands in proofs/
 pub mod PlacesByRules
+pub mod CollectDid
+-- what each stage asks for
+pub mod StagesAsk

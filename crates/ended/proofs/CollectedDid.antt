@@ -27,7 +27,7 @@ use Rattle.ended.specs.Evacuated.{Evacuated, FreedCounted, Packed}
 use Rattle.ended.specs.Living.{region-after, region-keeps}
 use Rattle.ended.proofs.EvacuatedCounts.{counted-whole}
 use Rattle.ended.specs.EvacuatedWhole.{evacuated-whole}
-use Rattle.ended.specs.EvacuatedStands.{evacuated-stands}
+use Rattle.ended.proofs.EvacuatedStands.{evacuated-stands}
 use Rattle.ended.proofs.Packing.{packed-occupies}
 use Rattle.ended.specs.CollectedDid.{collect_of}
 

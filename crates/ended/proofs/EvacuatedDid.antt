@@ -28,7 +28,7 @@ use Rattle.ended.specs.Living.{region-after, region-keeps}
 use Rattle.ended.proofs.EvacuatedCounts.{counted-whole}
 use Rattle.ended.specs.EvacuatedWhole.{evacuated-whole}
 use Rattle.ended.specs.AfterEnd.{end_of, after-end}
-use Rattle.ended.specs.EvacuatedStands.{evacuated-stands}
+use Rattle.ended.proofs.EvacuatedStands.{evacuated-stands}
 use Rattle.ended.proofs.Repacking.{repacked-occupies}
 use Rattle.ended.specs.WordsPlaced.{left}
 use Rattle.ended.specs.EndQuestion.{pages_needed, crossing_after, end-accepted}

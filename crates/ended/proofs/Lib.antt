@@ -3,3 +3,4 @@ pub mod Repacking
 pub mod EvacuatedDid
 pub mod EvacuatedCounts
 pub mod CollectedDid
+pub mod EvacuatedStands

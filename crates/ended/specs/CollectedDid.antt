@@ -26,7 +26,6 @@ use Rattle.promises.proofs.Questions.{did-moved}
 use Rattle.ended.specs.Evacuated.{Evacuated, FreedCounted, Packed}
 use Rattle.ended.specs.Living.{region-after, region-keeps}
 use Rattle.ended.specs.EvacuatedWhole.{evacuated-whole}
-use Rattle.ended.specs.EvacuatedStands.{evacuated-stands}
 
 -- the command: code 11 of thread t
 abbrev pub collect_of : ℕ → Command

@@ -7,7 +7,6 @@ pub mod CollectedDid
 -- laws, of any part: the words after the end are whole, and stand for what is there then
 pub mod Living
 pub mod EvacuatedWhole
-pub mod EvacuatedStands
 -- laws, of the end of a thread's innermost region: the rules, the questions 12, 13 and 14, and the pages that regions take
 pub mod AfterEnd
 pub mod WordsPlaced

@@ -3,7 +3,7 @@ use Rattle.std.proofs.Common.{arith}
 use Rattle.promises.proofs.Questions.{did-answer}
 use Rattle.layout.specs.Words.{words}
 use Rattle.collect.specs.Numbering.{Keeping}
-use Rattle.collect.proofs.StagesAsk.{keeping, keeping-noted, collected-chainable}
+use Rattle.collect.specs.StagesAsk.{keeping, keeping-noted, collected-chainable}
 use Rattle.collect.proofs.collect.Goals as goal
 use Rattle.collect.proofs.collect.Goals.{After-mark_kept}
 

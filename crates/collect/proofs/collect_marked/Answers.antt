@@ -1,8 +1,9 @@
 -- Each stage starts from what was left before it; put together they leave what the rules leave.
 use Rattle.std.proofs.Common.{◌∙◌, arith}
 use Rattle.collect.specs.TablesAfter.{room₂}
-use Rattle.collect.proofs.CollectDid.{readable₅, fits₅, promised}
-use Rattle.collect.proofs.StagesAsk.{marked-ready, pages-counted, marks-for, numbering, long₂, variables-ask, slots-ask, marks-ask, long₃, places-ask, used-ask, long₄, room₃, count-ask, freed-is, collected-noted}
+use Rattle.collect.specs.CollectDid.{readable₅, fits₅}
+use Rattle.collect.proofs.CollectPromised.{promised}
+use Rattle.collect.specs.StagesAsk.{marked-ready, pages-counted, marks-for, numbering, long₂, variables-ask, slots-ask, marks-ask, long₃, places-ask, used-ask, long₄, room₃, count-ask, freed-is, collected-noted}
 use Rattle.collect.proofs.collect_marked.Goals as goal
 
 pub list_pages-n-requires : goal.list_pages-n-requires

@@ -39,7 +39,6 @@ use Rattle.retell.specs.RetellingSlots.{IsCrossing}
 use Rattle.ended.specs.Evacuated.{Evacuated, FreedCounted}
 use Rattle.ended.specs.Living.{region-after}
 use Rattle.ended.specs.CollectedDid.{collect_of}
-use Rattle.ended.proofs.CollectedDid.{collected-did}
 use Rattle.ending.specs.Placing.{Placing}
 use Rattle.ending.specs.Crossing.{live_here, cross-here}
 use Rattle.ending.specs.Space.{Crosses, space-enough}
@@ -119,7 +118,7 @@ module _ {s : Sizes} {w w₁ : Words} {n : ℕ} {l W₂ : List ℕ} {K : ℕ} (a
       abbrev w' : Words
       w' = words W₅ M T₄
 
-      evacuated : Evacuated s w (space s w) w' (placed W₂)
+      pub evacuated : Evacuated s w (space s w) w' (placed W₂)
       evacuated =
           record {
             beyond = record {
@@ -140,10 +139,7 @@ module _ {s : Sizes} {w w₁ : Words} {n : ℕ} {l W₂ : List ℕ} {K : ℕ} (a
             unused = unused₅ a Y Z R S C M;
           }
 
-      counted-freed : FreedCounted s w control w'
+      pub counted-freed : FreedCounted s w control w'
       counted-freed =
           let same : f ≡ freed_by s (graph_of s w) control = omega (arith, e, freed-rest) in
           λ i. record { made = made₄ a Y Z C i; freed = (freed₄ a Y Z C ∙ ap (λ (k : ℕ). counted (freed_of s w.tables + k)) same) i }
-
-      pub promised : (t : ℕ) → t < s.threads → DidHere s w (collect_of t) w' (done 0)
-      promised = collected-did s w a.keeping.whole w' (placed W₂) evacuated (depth₄ a Y Z C) counted-freed (packed a Y Z C M)

@@ -35,7 +35,7 @@ use Rattle.copy.specs.Taking.{room-same}
 use Rattle.collect.specs.Numbering.{space, Keeping, Numbering, marks-listed, which}
 use Rattle.collect.specs.TablesAfter.{SpaceCounted, used₂, mark₂, room₂, count₃, other-same}
 use Rattle.collect.specs.Sliding.{refs₂, field₂, was₂, kept_back, place_same}
-use Rattle.collect.proofs.CollectDid.{freed-rest}
+use Rattle.collect.specs.CollectDid.{freed-rest}
 
 -- the entries that a collection leaves can be chained
 pub collected-chainable : {s : Sizes} {w w' : Words} {a : Answer} → WholeFor s w → ((t : ℕ) → t < s.threads → DidHere s w (collect_of t) w' a) → Chainable s w'.remember
