@@ -1,33 +1,18 @@
-use Rattle.std.proofs.Common.{arith}
-use Rattle.lists.specs.Says.{says-yes, says-no}
+use Rattle.std.proofs.Common.{rules}
 use Rattle.layout.proofs.in_range.Goals as goal
+use Rattle.layout.proofs.in_range.Goals.{then-contains, else-contains, then-contains-2, else-contains-2, then-contains-3, else-contains-3}
 
-pub returns-then-s-lt1 : goal.returns-then-s-lt1
-returns-then-s-lt1 c = says-no (λ h. omega arith)
-
-pub returns-then-s-gt16 : goal.returns-then-s-gt16
-returns-then-s-gt16 c = says-no (λ h. omega arith)
-
-pub returns-then-s-lt1-2 : goal.returns-then-s-lt1-2
-returns-then-s-lt1-2 c = says-no (λ h. omega arith)
-
-pub returns-then-s-gt32 : goal.returns-then-s-gt32
-returns-then-s-gt32 c = says-no (λ h. omega arith)
-
-pub returns-then-s-lt1-3 : goal.returns-then-s-lt1-3
-returns-then-s-lt1-3 c = says-no (λ h. omega arith)
-
-pub returns-then-s-gt8 : goal.returns-then-s-gt8
-returns-then-s-gt8 c = says-no (λ h. omega arith)
-
-pub returns-then-s-lt1-4 : goal.returns-then-s-lt1-4
-returns-then-s-lt1-4 c = says-no (λ h. omega arith)
-
-pub returns-then-s-gt1024 : goal.returns-then-s-gt1024
-returns-then-s-gt1024 c = says-no (λ h. omega arith)
-
-pub returns-then-s-gt4096 : goal.returns-then-s-gt4096
-returns-then-s-gt4096 c = says-no (λ h. omega arith)
-
-pub returns : goal.returns
-returns c = says-yes (omega arith)
+pub returns-then-contains-4 : goal.returns-then-contains-4
+returns-then-contains-4 c =
+    elim c.if-contains-3.branch [
+      | then-contains-3 w ↦
+          elim c.if-contains-2.branch [
+            | then-contains-2 x ↦
+                elim c.if-contains.branch [
+                  | then-contains y ↦ search rules
+                  | else-contains y ↦ search rules
+                ]
+            | else-contains-2 x ↦ search rules
+          ]
+      | else-contains-3 w ↦ search rules
+    ]

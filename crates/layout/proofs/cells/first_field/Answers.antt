@@ -1,4 +1,4 @@
-use Rattle.std.proofs.Common.{ℕ, ◌/◌, ap, sym, ◌∙◌}
+use Rattle.std.proofs.Common.{ap, sym}
 use Rattle.layout.specs.declared.Kind.{Kind}
 use Rattle.layout.specs.Cells.{first_field}
 use Rattle.layout.proofs.cells.first_field.Goals as goal
@@ -9,4 +9,4 @@ returns-in-Reference c = ap (λ (k : Kind). first_field k c.args.head) (sym c.in
 
 pub returns-in-Number : goal.returns-in-Number
 unfolding first_field
-returns-in-Number c = ap (λ (h : ℕ). h / 16) c.wide-h.ensures ∙ ap (λ (k : Kind). first_field k c.args.head) (sym c.in-Number.is)
+returns-in-Number c = ap (λ (k : Kind). first_field k c.args.head) (sym c.in-Number.is)

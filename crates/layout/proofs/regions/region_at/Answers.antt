@@ -19,17 +19,5 @@ at_level s t (suc l) h = refl
 pub returns-then-level-eq0 : goal.returns-then-level-eq0
 returns-then-level-eq0 c = at_zero _ _ _ c.if-level-eq0.true
 
-pub overflow_mul-result : goal.overflow_mul-result
-overflow_mul-result c = let a = c.args in omega (arith, product-low a.thread a.p.depth (omega arith) (omega arith))
-
-pub overflow_add-result : goal.overflow_add-result
-overflow_add-result c = let a = c.args in omega (arith, product-low a.thread a.p.depth (omega arith) (omega arith))
-
-pub overflow_add-result-2 : goal.overflow_add-result-2
-overflow_add-result-2 c = let a = c.args in omega (arith, product-low a.thread a.p.depth (omega arith) (omega arith))
-
-pub overflow_cast-result : goal.overflow_cast-result
-overflow_cast-result c = let a = c.args in omega (arith, product-low a.thread a.p.depth (omega arith) (omega arith))
-
 pub returns : goal.returns
 returns c = let a = c.args in at_level _ a.thread a.level (omega arith)

@@ -5,9 +5,6 @@ use Rattle.layout.proofs.tables.made_at.Goals as goal
 pub overflow_add-result : goal.overflow_add-result
 overflow_add-result c = omega (arith, c.counts_from.ensures, count-is c.args.p, owners-low c.args.p c.requires.0 c.requires.1)
 
-pub overflow_mul-result : goal.overflow_mul-result
-overflow_mul-result c = omega (arith, mul-le-mul c.requires.0 c.requires.2)
-
 pub overflow_add-result-2 : goal.overflow_add-result-2
 overflow_add-result-2 c = omega (arith, c.counts_from.ensures, count-is c.args.p, owners-low c.args.p c.requires.0 c.requires.1, mul-le-mul c.requires.0 c.requires.2)
 
