@@ -1,5 +1,6 @@
 // A slot is remembered anew, and the chains follow: they are those of the remember table before, and those of the table after.
 ghost use Rattle.std.specs.Prelude.{◌≡◌, ℕ, ◌+◌, ◌^◌, ◌<◌, ◌≤◌, length, set};
+ghost use Rattle.rules.specs.Refusals.{asked};
 ghost use Rattle.rules.specs.Regions.{regions};
 ghost use Rattle.layout.specs.Places.{entries_used, slot_in};
 ghost use Rattle.remember.specs.Table.{entry, entries_in, inserted, removed, Table};
@@ -10,7 +11,7 @@ ghost use Rattle.linking.specs.EntryChains.{with_chains_of};
 use crate::joins::{link, unlink};
 use crate::moves::{close_place, open_place};
 use remember::entries::{find_entry, insert_entry, remove_entry};
-use rules::Sizes;
+use rules::{Refusal, Sizes};
 
 // The chains when an entry of a region is to come before the one at a place.
 fn comes(p: Sizes, remember: &[u32], chains: &mut [u32], place: usize, region: usize)
@@ -52,7 +53,7 @@ fn changes(p: Sizes, remember: &[u32], chains: &mut [u32], place: usize, region:
     link(last, chains, region, place);
 }
 
-// Slot `at` crossed into `was` and is to cross into `will`: its entry stays, goes, comes or changes its region, or there is no room (14).
+// Slot `at` crossed into `was` and is to cross into `will`: its entry stays, goes, comes or changes its region, or there is no room.
 pub fn remember_slot(
     p: Sizes,
     remember: &mut [u32],
@@ -60,36 +61,36 @@ pub fn remember_slot(
     at: usize,
     was: u32,
     will: u32,
-) -> u32
+) -> Result<(), Refusal>
     requires table { Table p.entries remember.old }
     requires chainable { Chainable p remember.old }
     requires chained { ChainsWhole p remember.old chains.old }
     requires at_bound { (at < 2 ^ 32) × (will ≤ regions p) }
     requires named { 0 < was → (i : ℕ) × (i < entries_used remember.old) × (slot_in remember.old i ≡ at) }
     requires new { was ≡ 0 → (i : ℕ) → i < entries_used remember.old → slot_in remember.old i ≡ at → ⊥ }
-    ensures remembered { Remembered p.entries remember.old at was will remember.new result }
+    ensures remembered { Remembered p.entries remember.old at was will remember.new (asked result) }
     ensures chains_after { chains.new ≡ with_chains p remember.new chains.old }
 {
     if was == will {
-        return 0;
+        return Ok(());
     }
     let entries = p.entries;
     if was == 0 {
         if entries <= layout::wide(layout::remember::used(remember)) {
-            return 14;
+            return Err(Refusal::Entries);
         }
         let place = find_entry(entries, remember, at as u32);
         comes(p, remember, chains, place, layout::wide(will));
         insert_entry(entries, remember, place, at as u32, will);
-        return 0;
+        return Ok(());
     }
     let place = find_entry(entries, remember, at as u32);
     if will == 0 {
         goes(p, remember, chains, place);
         remove_entry(entries, remember, place);
-        return 0;
+        return Ok(());
     }
     changes(p, remember, chains, place, layout::wide(will));
     layout::remember::set_region(entries, remember, place, will);
-    0
+    Ok(())
 }
