@@ -1,7 +1,9 @@
 -- Words that are renumbered by h, in place or as they move by one place.
-use Rattle.std.specs.Prelude.{ℕ, suc, ◌+◌, ◌-◌, ◌≤◌, ◌<◌, List, ◌≡◌, refl, length, get_or, set}
-use Rattle.std.proofs.Common.{sym, ap, ◌∙◌, arith, length-set}
-use Rattle.std.proofs.Math.Decide.{ℕ_discrete}
+use Rattle.std.specs.Prelude.{ℕ, suc, ◌+◌, ◌-◌, ◌≤◌, ◌<◌, List, ◌++◌, ◌≡◌, length, get_or, set, take, drop}
+use Rattle.std.proofs.Common.{ap, ◌∙◌, arith, length-set, get_or-take, get_or-drop}
+use Rattle.std.proofs.Math.ListN.{get_or-append}
+use Rattle.std.proofs.Math.Seq.{length-take-le, length_front}
+use Rattle.std.proofs.lemmas.List.{get_or-append_right}
 use Rattle.lists.specs.Stores.{put, past}
 use Rattle.linking.specs.Shifting.{raised, lowered, Opened, Closed}
 
@@ -24,54 +26,17 @@ pub record MovedDown (h : ℕ → ℕ) (from to : ℕ) (w w' : List ℕ) : Type 
   pub kept : (j : ℕ) → (from ≤ j → to ≤ suc j) → get_or w' j 0 ≡ get_or w j 0
 
 module _ (h : ℕ → ℕ) where
-  pub renumbered-none : (w : List ℕ) → Renumbered h 0 w w
-  renumbered-none w = record { long = refl; low = λ j l. absurd (let z : ⊥ = omega arith in z); high = λ j l. refl }
-
-  pub renumbered-more : {i x : ℕ} {w w' : List ℕ} → Renumbered h i w w' → i < length w → x ≡ h (get_or w' i 0) → Renumbered h (i + 1) w (set w' i x)
-  renumbered-more {i} {x} {w} {w'} r l e = record {
-    long = length-set w' i x ∙ r.long;
-    low = λ j b. go j b (ℕ_discrete j i);
-    high = λ j b. past w' i x j 0 (λ (q : j ≡ i). omega arith) ∙ r.high j (omega arith);
+  -- the first words are renumbered, those after them are as they were
+  pub renumbered-part : (to : ℕ) (w front : List ℕ) → to ≤ length w → length front ≡ length (take to w) → ((j : ℕ) → j < length (take to w) → get_or front j 0 ≡ h (get_or (take to w) j 0))
+      → Renumbered h to w (front ++ drop to w)
+  renumbered-part to w front l n e = record {
+    long = length_front w front to n;
+    low = λ j b. get_or-append front (drop to w) 0 j (omega (arith, m)) ∙ e j (omega (arith, m)) ∙ ap h (get_or-take to w j 0 b);
+    high = λ j b. get_or-append_right front (drop to w) to j 0 (omega (arith, m)) b ∙ get_or-drop to w (j - to) 0 ∙ ap (λ (k : ℕ). get_or w k 0) (omega arith);
   }
     where
-      go : (j : ℕ) → j < i + 1 → Dec (j ≡ i) → get_or (set w' i x) j 0 ≡ h (get_or w j 0)
-      go j b (yes q) =
-          ap (λ (k : ℕ). get_or (set w' i x) k 0) q ∙ put w' i x 0 (omega (arith, r.long)) ∙ e ∙ ap h (r.high i (omega arith)) ∙ ap (λ (k : ℕ). h (get_or w k 0)) (sym q)
-      go j b (no q) = past w' i x j 0 q ∙ r.low j (omega arith)
-
-  pub up_none : (to : ℕ) (w : List ℕ) → MovedUp h to to w w
-  up_none to w = record { long = refl; moved = λ j l b. absurd (let z : ⊥ = omega arith in z); kept = λ j b. refl }
-
-  pub up_more : {i to x : ℕ} {w w' : List ℕ} → MovedUp h i to w w' → 0 < i → i ≤ to → to < length w → x ≡ h (get_or w' (i - 1) 0) → MovedUp h (i - 1) to w (set w' i x)
-  up_more {i} {to} {x} {w} {w'} r p l b e = record {
-    long = length-set w' i x ∙ r.long;
-    moved = λ j a c. go j a c (ℕ_discrete (suc j) i);
-    kept = λ j k. past w' i x j 0 (λ (q : j ≡ i). omega (arith, k (omega arith))) ∙ r.kept j (λ q. k (omega arith));
-  }
-    where
-      go : (j : ℕ) → i - 1 ≤ j → j < to → Dec (suc j ≡ i) → get_or (set w' i x) (suc j) 0 ≡ h (get_or w j 0)
-      go j a c (yes q) =
-          let v : i - 1 ≡ j = omega arith in
-          ap (λ (k : ℕ). get_or (set w' i x) k 0) q ∙ put w' i x 0 (omega (arith, r.long)) ∙ e
-          ∙ ap h (r.kept (i - 1) (λ (q : i < i - 1). omega arith) ∙ ap (λ (k : ℕ). get_or w k 0) v)
-      go j a c (no q) = past w' i x (suc j) 0 q ∙ r.moved j (omega arith) c
-
-  pub down-none : (from : ℕ) (w : List ℕ) → MovedDown h from (from + 1) w w
-  down-none from w = record { long = refl; moved = λ j l b. absurd (let z : ⊥ = omega arith in z); kept = λ j b. refl }
-
-  pub down-more : {from i x : ℕ} {w w' : List ℕ} → MovedDown h from i w w' → from < i → i < length w → x ≡ h (get_or w' i 0) → MovedDown h from (i + 1) w (set w' (i - 1) x)
-  down-more {from} {i} {x} {w} {w'} r l b e = record {
-    long = length-set w' (i - 1) x ∙ r.long;
-    moved = λ j a c. go j a c (ℕ_discrete j (i - 1));
-    kept = λ j k. past w' (i - 1) x j 0 (λ (q : j ≡ i - 1). omega (arith, k (omega arith))) ∙ r.kept j (λ q. omega (arith, k q));
-  }
-    where
-      go : (j : ℕ) → from ≤ j → suc j < i + 1 → Dec (j ≡ i - 1) → get_or (set w' (i - 1) x) j 0 ≡ h (get_or w (suc j) 0)
-      go j a c (yes q) =
-          let v : i ≡ suc j = omega arith in
-          ap (λ (k : ℕ). get_or (set w' (i - 1) x) k 0) q ∙ put w' (i - 1) x 0 (omega (arith, r.long)) ∙ e
-          ∙ ap h (r.kept i (λ q. omega arith) ∙ ap (λ (k : ℕ). get_or w k 0) v)
-      go j a c (no q) = past w' (i - 1) x j 0 q ∙ r.moved j a (omega arith)
+      m : (length front ≡ to) × (length (take to w) ≡ to)
+      m = (omega (arith, length-take-le to w l), length-take-le to w l)
 
 -- ---- a place is made, and closed
 
@@ -99,9 +64,3 @@ module _ {R u q : ℕ} {k k₁ k₂ k₃ : List ℕ} (low : q ≤ u) (long : R +
     where
       else : (j : ℕ) → (j ≡ R + u → ⊥) → get_or k₃ j 0 ≡ get_or k₂ j 0
       else j d = ap (λ (l : List ℕ). get_or l j 0) e ∙ past k₂ (R + u) 0 j 0 d
-
--- the words below the place, once it is made, are no larger
-pub opens_small : (R u q b : ℕ) {h : ℕ → ℕ} {k k₁ : List ℕ} → q ≤ u → MovedUp h (R + q) (R + u) k k₁ → ((j : ℕ) → j < R + u → get_or k j 0 + 1 < b)
-    → (j : ℕ) → j < R + q → get_or (set k₁ (R + q) 0) j 0 + 1 < b
-opens_small R u q b {h} {k} {k₁} low m s j l =
-    omega (arith, past k₁ (R + q) 0 j 0 (λ (z : j ≡ R + q). omega arith), m.kept j (λ z. absurd (let v : ⊥ = omega arith in v)), s j (omega arith))

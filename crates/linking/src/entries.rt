@@ -21,7 +21,7 @@ fn comes(p: Sizes, remember: &[u32], chains: &mut [u32], place: usize, region: u
     ensures { (at : ℕ) → chains.new ≡ with_chains_of p (inserted place (entry at region) (entries_in p.entries remember.now)) chains.old }
 {
     let last = layout::regions::last_region(p);
-    let used = layout::wide(layout::remember::used(remember));
+    let used = layout::remember::used(remember) as usize;
     open_place(last, used, chains, place);
     link(last, chains, region, place);
 }
@@ -34,8 +34,8 @@ fn goes(p: Sizes, remember: &[u32], chains: &mut [u32], place: usize)
     ensures { chains.new ≡ with_chains_of p (removed place (entries_in p.entries remember.now)) chains.old }
 {
     let last = layout::regions::last_region(p);
-    let used = layout::wide(layout::remember::used(remember));
-    let region = layout::wide(layout::remember::region(p.entries, remember, place));
+    let used = layout::remember::used(remember) as usize;
+    let region = layout::remember::region(p.entries, remember, place) as usize;
     unlink(last, chains, region, place);
     close_place(last, used - 1, chains, place);
 }
@@ -48,7 +48,7 @@ fn changes(p: Sizes, remember: &[u32], chains: &mut [u32], place: usize, region:
     ensures { (at : ℕ) → chains.new ≡ with_chains_of p (set (entries_in p.entries remember.now) place (entry at region)) chains.old }
 {
     let last = layout::regions::last_region(p);
-    let from = layout::wide(layout::remember::region(p.entries, remember, place));
+    let from = layout::remember::region(p.entries, remember, place) as usize;
     unlink(last, chains, from, place);
     link(last, chains, region, place);
 }
@@ -76,11 +76,11 @@ pub fn remember_slot(
     }
     let entries = p.entries;
     if was == 0 {
-        if entries <= layout::wide(layout::remember::used(remember)) {
+        if entries <= layout::remember::used(remember) as usize {
             return Err(Refusal::Entries);
         }
         let place = find_entry(entries, remember, at as u32);
-        comes(p, remember, chains, place, layout::wide(will));
+        comes(p, remember, chains, place, will as usize);
         insert_entry(entries, remember, place, at as u32, will);
         return Ok(());
     }
@@ -90,7 +90,7 @@ pub fn remember_slot(
         remove_entry(entries, remember, place);
         return Ok(());
     }
-    changes(p, remember, chains, place, layout::wide(will));
+    changes(p, remember, chains, place, will as usize);
     layout::remember::set_region(entries, remember, place, will);
     Ok(())
 }

@@ -11,13 +11,10 @@ fn word_before(last: usize, chains: &[u32], region: usize, place: usize) -> usiz
     ensures before { IsBefore last region place chains.now result }
 {
     let mut at = region - 1;
-    let mut x = layout::wide(chains[at]);
-    while x <= place {
-        if x == 0 {
-            return at;
-        }
+    let mut x = chains[at] as usize;
+    while 0 < x && x <= place {
         at = last + x - 1;
-        x = layout::wide(chains[at]);
+        x = chains[at] as usize;
     }
     at
 }

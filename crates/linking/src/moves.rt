@@ -1,27 +1,32 @@
-// A place is made for an entry, or closed: the words after it move by one place, and all are renumbered.
+// A place is made for an entry, or closed: the words after it move by one place, and all are renumbered. They are renumbered as they move, up from
+// the last and down from the first: `copy_within` and `renumber` would go over them twice.
 ghost use Rattle.std.specs.Prelude.{◌≡◌, ℕ, ◌+◌, ◌^◌, ◌≤◌, ◌<◌, length, get_or};
 ghost use Rattle.linking.specs.Shifting.{raised, lowered, Opened, Closed};
-ghost use Rattle.linking.specs.Moving.{Renumbered, MovedUp, MovedDown};
+ghost use Rattle.linking.specs.Moving.{MovedUp, MovedDown};
 
 // A word, when the entries from `place` on stand one place higher.
 fn number_up(place: usize, x: u32) -> u32
     requires { x + 1 < 2 ^ 32 }
     ensures { result ≡ raised place x }
 {
-    if place < layout::wide(x) {
-        return x + 1;
-    }
-    x
+    if place < x as usize { x + 1 } else { x }
 }
 
 // A word, when the entries after `place` stand one place lower.
 fn number_down(place: usize, x: u32) -> u32
     ensures { result ≡ lowered place x }
 {
-    if place < layout::wide(x) {
-        return x - 1;
+    if place < x as usize { x - 1 } else { x }
+}
+
+// Each word becomes its number.
+fn renumber<F: Fn(u32) -> u32>(words: &mut [u32], number: F)
+    requires { (j : ℕ) → j < length words.old → F.pre number (get_or words.old j 0) }
+    ensures { (j : ℕ) → j < length words.old → F.post number (get_or words.old j 0) (get_or words.new j 0) }
+{
+    for word in words {
+        *word = number(*word);
     }
-    x
 }
 
 // The words `from` up to `to` move up, renumbered; the word at `to` is lost.
@@ -30,23 +35,8 @@ fn move_up(words: &mut [u32], place: usize, from: usize, to: usize)
     requires by_index { (j : ℕ) → j < to → get_or words.old j 0 + 1 < 2 ^ 32 }
     ensures { MovedUp (raised place) from to words.old words.new }
 {
-    let mut i = to;
-    while from < i {
-        words[i] = number_up(place, words[i - 1]);
-        i -= 1;
-    }
-}
-
-// The words below `to` are renumbered.
-fn raise_numbers(words: &mut [u32], place: usize, to: usize)
-    requires to_in_bounds { to ≤ length words.old }
-    requires by_index { (j : ℕ) → j < to → get_or words.old j 0 + 1 < 2 ^ 32 }
-    ensures { Renumbered (raised place) to words.old words.new }
-{
-    let mut i: usize = 0;
-    while i < to {
-        words[i] = number_up(place, words[i]);
-        i += 1;
+    for i in (from..to).rev() {
+        words[i + 1] = number_up(place, words[i]);
     }
 }
 
@@ -55,22 +45,8 @@ fn move_down(words: &mut [u32], place: usize, from: usize, to: usize)
     requires { (from < to) × (to ≤ length words.old) }
     ensures { MovedDown (lowered place) from to words.old words.new }
 {
-    let mut i = from + 1;
-    while i < to {
+    for i in from + 1..to {
         words[i - 1] = number_down(place, words[i]);
-        i += 1;
-    }
-}
-
-// The words below `to` are renumbered.
-fn lower_numbers(words: &mut [u32], place: usize, to: usize)
-    requires { to ≤ length words.old }
-    ensures { Renumbered (lowered place) to words.old words.new }
-{
-    let mut i: usize = 0;
-    while i < to {
-        words[i] = number_down(place, words[i]);
-        i += 1;
     }
 }
 
@@ -82,7 +58,7 @@ pub fn open_place(last: usize, used: usize, chains: &mut [u32], place: usize)
 {
     move_up(chains, place, last + place, last + used);
     chains[last + place] = 0;
-    raise_numbers(chains, place, last + place);
+    renumber(&mut chains[..last + place], |x| number_up(place, x));
 }
 
 // An entry that is in no chain any more goes, and `used` are left.
@@ -90,7 +66,7 @@ pub fn close_place(last: usize, used: usize, chains: &mut [u32], place: usize)
     requires { (place ≤ used) × (last + used < length chains.old) }
     ensures { Closed last (last + used) place chains.old chains.new }
 {
-    lower_numbers(chains, place, last + place);
+    renumber(&mut chains[..last + place], |x| number_down(place, x));
     move_down(chains, place, last + place, last + used + 1);
     chains[last + used] = 0;
 }

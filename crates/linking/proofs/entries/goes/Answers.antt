@@ -1,5 +1,5 @@
 -- The entry is taken out of the chain of its region, and its place is closed.
-use Rattle.std.proofs.Common.{◌∙◌, arith}
+use Rattle.std.proofs.Common.{arith}
 use Rattle.linking.specs.Joining.{unlinked-long}
 use Rattle.linking.specs.EntryChains.{room, words-forward, region-pos, region-high, went}
 use Rattle.linking.proofs.entries.goes.Goals as goal
@@ -10,7 +10,7 @@ unlink-requires c =
     let w = c.requires.chains_whole in
     let l = c.requires.place_bound in
     let e = c.last_region-last.ensures in
-    let g = c.wide-region.ensures ∙ c.region.ensures in record {
+    let g = c.region-region.ensures in record {
       le_region = (region-pos t w e l g, region-high t w e l g, omega (arith, room t w e, t.room, l));
       by_index = words-forward t w e (omega (arith, l));
     }
@@ -21,11 +21,11 @@ close_place-requires c =
     let w = c.requires.chains_whole in
     let l = c.requires.place_bound in
     let e = c.last_region-last.ensures in
-    let x = c.wide-used.ensures ∙ c.used.ensures in
+    let x = c.used-used.ensures in
     (omega (arith, x, l), omega (arith, room t w e, t.room, x, l, unlinked-long c.unlink.ensures))
 
 pub returns : goal.returns
 returns c =
     let l = c.requires.place_bound in
-    went c.requires.chainable c.requires.chains_whole c.last_region-last.ensures l (c.wide-region.ensures ∙ c.region.ensures) c.unlink.ensures
-    (c.wide-used.ensures ∙ c.used.ensures) c.close_place.ensures
+    went c.requires.chainable c.requires.chains_whole c.last_region-last.ensures l (c.region-region.ensures) c.unlink.ensures
+    (c.used-used.ensures) c.close_place.ensures

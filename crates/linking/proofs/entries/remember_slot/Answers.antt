@@ -2,42 +2,31 @@
 use Rattle.std.proofs.Common.{◌<◌, arith, refl}
 use Rattle.layout.specs.Places.{entries_used}
 use Rattle.remember.specs.Remembering.{place-low, place-used, entry-comes, entry-changes, entry-goes}
-use Rattle.remember.specs.Remembering.Remembered.{kept, full}
-use Rattle.chains.proofs.LentChains.{chains-same}
 use Rattle.linking.specs.EntryChains.{table-came, table-went, table-changed}
 use Rattle.linking.proofs.entries.remember_slot.Goals as goal
-use Rattle.linking.proofs.entries.remember_slot.Goals.{Else-entries-wide}
+use Rattle.linking.proofs.entries.remember_slot.Goals.{Else-entries-used}
 
 -- there is room for one more
-room : (c : goal.Else-entries-wide) → (let a = c.args in entries_used a.remember.now < a.p.entries)
-room c = omega (arith, c.if-entries-wide.false, c.wide.ensures, c.used.ensures)
-
-pub returns-then-was-will : goal.returns-then-was-will
-returns-then-was-will c = record { remembered = kept c.if-was-will.true refl refl; chains_after = chains-same c.requires.chained }
-
-pub returns-then-entries-wide : goal.returns-then-entries-wide
-returns-then-entries-wide c = record {
-  remembered = full c.if-was-eq0.true (omega (arith, c.if-was-will.false, c.if-was-eq0.true)) (omega (arith, c.if-entries-wide.true, c.wide.ensures, c.used.ensures)) refl refl;
-  chains_after = chains-same c.requires.chained;
-}
+room : (c : goal.Else-entries-used) → (let a = c.args in entries_used a.remember.now < a.p.entries)
+room c = omega (arith, c.if-entries-used.false, c.used.ensures)
 
 pub comes-requires : goal.comes-requires
 comes-requires c =
-    let w = c.wide-then-was-eq0.ensures in record {
+    record {
       chainable = c.requires.chainable;
       chains_whole = c.requires.chained;
       place_bound = (
         place-low c.requires.table c.args.at c.find_entry-place.ensures,
-        room (goal.at.comes-requires c).Else-entries-wide,
-        omega (arith, w, c.if-was-will.false, c.if-was-eq0.true),
-        omega (arith, w, c.requires.at_bound.1),
+        room (goal.at.comes-requires c).Else-entries-used,
+        omega (arith, c.if-was-will.false, c.if-was-eq0.true),
+        omega (arith, c.requires.at_bound.1),
       );
     }
 
 pub insert_entry-requires : goal.insert_entry-requires
 insert_entry-requires c = record {
   table = c.requires.table;
-  entries_bound = (omega (arith, c.requires.chainable.entries), place-low c.requires.table c.args.at c.find_entry-place.ensures, room (goal.at.insert_entry-requires c).Else-entries-wide);
+  entries_bound = (omega (arith, c.requires.chainable.entries), place-low c.requires.table c.args.at c.find_entry-place.ensures, room (goal.at.insert_entry-requires c).Else-entries-used);
 }
 
 pub returns-then-was-eq0 : goal.returns-then-was-eq0
@@ -45,9 +34,9 @@ returns-then-was-eq0 c =
     let at = c.args.at in
     let find = c.find_entry-place.ensures in
     let absent = c.if-was-eq0.true in
-    let more = room (goal.at.returns-then-was-eq0 c).Else-entries-wide in record {
+    let more = room (goal.at.returns-then-was-eq0 c).Else-entries-used in record {
       remembered = entry-comes c.requires.table at find (omega (arith, c.if-was-will.false, absent)) more (c.requires.new absent) c.insert_entry.ensures;
-      chains_after = table-came c.args.p _ _ c.requires.table _ _ _ c.wide-then-was-eq0.ensures (place-low c.requires.table at find) more c.insert_entry.ensures c.comes.ensures;
+      chains_after = table-came c.args.p _ _ c.requires.table _ _ _ refl (place-low c.requires.table at find) more c.insert_entry.ensures c.comes.ensures;
     }
 
 pub goes-requires : goal.goes-requires
@@ -76,11 +65,10 @@ returns-then-will-eq0 c =
 
 pub changes-requires : goal.changes-requires
 changes-requires c =
-    let w = c.wide-2.ensures in
     let n = c.requires.named (omega (arith, c.if-was-eq0.false)) in record {
       chainable = c.requires.chainable;
       chains_whole = c.requires.chained;
-      place_bound = (place-used c.requires.table c.args.at c.find_entry-place-2.ensures n.0 n.1 n.2, omega (arith, w, c.if-will-eq0.false), omega (arith, w, c.requires.at_bound.1));
+      place_bound = (place-used c.requires.table c.args.at c.find_entry-place-2.ensures n.0 n.1 n.2, omega (arith, c.if-will-eq0.false), omega (arith, c.requires.at_bound.1));
     }
 
 pub set_region-requires : goal.set_region-requires
@@ -96,5 +84,5 @@ returns c =
     let find = c.find_entry-place-2.ensures in
     let n = c.requires.named (omega (arith, c.if-was-eq0.false)) in record {
       remembered = entry-changes c.requires.table at find n.0 n.1 n.2 (omega (arith, c.if-will-eq0.false)) c.set_region.ensures;
-      chains_after = table-changed c.args.p _ _ c.requires.table _ _ c.wide-2.ensures (place-used c.requires.table at find n.0 n.1 n.2) c.set_region.ensures c.changes.ensures;
+      chains_after = table-changed c.args.p _ _ c.requires.table _ _ refl (place-used c.requires.table at find n.0 n.1 n.2) c.set_region.ensures c.changes.ensures;
     }

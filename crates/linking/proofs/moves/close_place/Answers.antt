@@ -1,10 +1,10 @@
 -- The words before the place are renumbered, then those after it move.
-use Rattle.std.proofs.Common.{length-set, refl, ◌∙◌}
-use Rattle.linking.specs.Moving.{closes}
+use Rattle.std.proofs.Common.{arith, rules, refl}
+use Rattle.linking.specs.Moving.{renumbered-part, closes}
 use Rattle.linking.proofs.moves.close_place.Goals as goal
 
-pub shape_of-chains : goal.shape_of-chains
-shape_of-chains c = simp length-set (c.move_down.ensures.long ∙ c.lower_numbers.ensures.long)
-
 pub returns : goal.returns
-returns c = closes c.requires.0 c.requires.1 c.lower_numbers.ensures c.move_down.ensures refl
+returns c =
+    closes c.requires.0 c.requires.1
+    (renumbered-part _ _ _ _ (omega arith) (search rules) (λ j l. let p = c.renumber.ensures j l in search rules))
+    c.move_down.ensures refl
