@@ -1,2 +1,1 @@
-pub mod NotedSearch
 pub mod Took

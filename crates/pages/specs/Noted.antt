@@ -1,7 +1,7 @@
 -- The notes of a block. Note 0 counts pages: so many of the last are not free, and a search for the highest-numbered free page begins below them.
 -- Notes of zero, as a block begins with, say nothing. The note of a region is the page that its last object went to, which is tested before use.
 use Rattle.std.specs.Prelude.{◌≡◌, List, ℕ, ◌+◌, ◌-◌, ◌≤◌, ◌<◌, length, get_or, set}
-use Rattle.std.proofs.Common.{sym, ap, ◌∙◌, arith, length-set, get_or-set_same, get_or-set_other}
+use Rattle.std.proofs.Common.{sym, ap, ◌∙◌, arith, length-set, get_or-set_other}
 use Rattle.std.proofs.Math.Logic.{by_cases}
 use Rattle.std.proofs.Math.Decide.{ℕ_discrete, dec_lt}
 use Rattle.rules.specs.declared.Sizes.{Sizes}
@@ -9,7 +9,7 @@ use Rattle.layout.specs.Places.{most_regions, owners_from, owner_at, owner_of}
 use Rattle.layout.specs.Cells.{page_of}
 use Rattle.promises.specs.TakeCell.{Took}
 use Rattle.promises.proofs.TakeCell.{page-past}
-use Rattle.pages.specs.Pages.{Free, NoneFrom, free_all}
+use Rattle.pages.specs.Pages.{NoneFrom}
 
 abbrev pub note_words : ℕ
 note_words = most_regions

@@ -1,5 +1,5 @@
 -- The page that a region's next object goes to, and the words after it took its cell there.
-use Rattle.std.specs.Prelude.{◌≡◌, ◌≢◌, ◌⊎◌, List, Bool, true, eqb, ℕ, ◌+◌, ◌-◌, ◌≤◌, ◌<◌, set}
+use Rattle.std.specs.Prelude.{◌≡◌, ◌≢◌, ◌⊎◌, List, Bool, true, eqb, ℕ, ◌+◌, ◌-◌, ◌≤◌, ◌<◌, set, Option, unwrap_or}
 use Rattle.std.proofs.Common.{sym, ap, ◌∙◌, subst, inl, inr, eqb-true, arith}
 use Rattle.std.proofs.Math.Decide.{dec_lt, ℕ_discrete}
 use Rattle.lists.specs.Below.{upto}
@@ -10,6 +10,10 @@ use Rattle.layout.specs.Cells.{page_cells, place_of}
 use Rattle.promises.specs.Whole.{Partial}
 use Rattle.promises.specs.Regular.{Regular}
 use Rattle.promises.proofs.OwnedPages.{partly-filled}
+
+-- the page that a search found; the number of pages if it found none
+abbrev pub page_or : Sizes → Option ℕ → ℕ
+page_or p found = unwrap_or found p.pages
 
 -- the partly filled page of region g
 pub record Partly (p : Sizes) (t : List ℕ) (g page : ℕ) : Type 0 where

@@ -1,12 +1,7 @@
 -- The search from the top. Invariant: no page from `page` on and below `high` is free.
-use Rattle.std.proofs.Common.{◌≤◌}
 use Rattle.pages.specs.Pages.{NoneFrom}
 use Rattle.pages.proofs.free_below.Given as goal
 
 abbrev pub invariant-loop-page : goal.invariant-loop-page
 invariant-loop-page l =
-    (l.page ≤ l.high) × NoneFrom l.p l.tables l.page l.high
-
-abbrev pub decreases-loop-page : goal.decreases-loop-page
-decreases-loop-page l =
-    l.page
+    NoneFrom l.p l.tables l.page l.high

@@ -1,38 +1,18 @@
-use Rattle.std.proofs.Common.{◌≡◌, refl, ap, ◌∙◌, arith}
+use Rattle.std.proofs.Common.{sym, ◌∙◌, arith}
 use Rattle.lists.specs.Counting.{sum_more}
-use Rattle.promises.specs.OwnedPages.{owned_one, owned_in, owned-le}
+use Rattle.promises.specs.OwnedPages.{owned_one, owned-few, owned-yes, owned-no}
 use Rattle.pages.proofs.owned_pages.Goals as goal
-
-pub loop-page-init : goal.loop-page-init
-loop-page-init c =
-    (omega arith, refl, refl, omega arith)
-
-pub is_owned-n-requires : goal.is_owned-n-requires
-is_owned-n-requires c = record { room = c.requires; page_lt_pages = omega arith }
+use Rattle.pages.proofs.owned_pages.Goals.{then-owner-g, else-owner-g}
 
 pub overflow_add-n : goal.overflow_add-n
-overflow_add-n c =
-    let a = c.args in
-    let l = c.loop-page in
-    omega (arith, c.is_owned-n.ensures, owned-le a.p a.tables.now a.g l.page, l.invariant.3, c.requires)
-
-pub overflow_add-page : goal.overflow_add-page
-overflow_add-page c =
-    omega (arith, c.requires)
-
-pub loop-page-smaller : goal.loop-page-smaller
-loop-page-smaller c =
-    omega arith
+overflow_add-n c = omega (arith, owned-few c.args.p c.args.tables.now c.args.g c.loop-page.page, c.requires.few)
 
 pub loop-page-preserved : goal.loop-page-preserved
 loop-page-preserved c =
     let a = c.args in
-    let l = c.loop-page in
-    let m = sum_more (owned_one a.p a.tables.now a.g) l.page in
-    (omega arith, l.invariant.1, omega (arith, c.is_owned-n.ensures, m, l.invariant.2), omega (arith, c.is_owned-n.ensures, owned-le a.p a.tables.now a.g l.page, l.invariant.3))
-
-pub returns : goal.returns
-returns c =
-    let a = c.args in
-    let e : c.loop-page.page ≡ a.p.pages = omega arith in
-    c.loop-page.invariant.2 ∙ ap (owned_in a.p a.tables.now a.g) e
+    let page = c.loop-page.page in
+    let m = sum_more (owned_one a.p a.tables.now a.g) page in
+    elim c.if-owner-g.branch [
+      | then-owner-g w ↦ omega (arith, m, owned-yes a.p a.tables.now a.g page (sym c.owner.ensures ∙ w.if-owner-g.true))
+      | else-owner-g w ↦ omega (arith, m, owned-no a.p a.tables.now a.g page (λ z. w.if-owner-g.false (c.owner.ensures ∙ z)))
+    ]
