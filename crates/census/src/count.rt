@@ -13,6 +13,7 @@ ghost use Rattle.census.specs.Counted.{on_page};
 ghost use Rattle.census.specs.After.{cell_crosses};
 ghost use Rattle.census.specs.Census.{Census};
 
+use crate::crossing::cross_cell;
 use rules::Sizes;
 
 // Survivor c is one more that goes where it goes.
@@ -22,7 +23,7 @@ pub fn tally(cells: &[u32], c: usize, come: &mut [u32])
     requires c_bound { get_or come.old (work_of cells.now c) 0 < 2 ^ 31 }
     ensures { (g : ℕ) → get_or come.new g 0 ≡ get_or come.old g 0 + goes_to cells.now g c }
 {
-    let g = layout::wide(layout::cells::work(cells, c));
+    let g = layout::cells::work(cells, c) as usize;
     come[g] += 1;
 }
 
@@ -44,17 +45,14 @@ pub fn count_page(
     ensures value { result ≡ on_page (cell_crosses p cells.now tables.now) page w }
     ensures upper_bound { result ≤ page_words }
 {
-    let marks = u32::count_ones(w);
     let mut left = w;
-    let mut n: usize = 0;
-    let mut k: u32 = 0;
-    while k < marks {
-        let i = u32::trailing_zeros(left);
-        let c = layout::cells::cell_on(page, layout::wide(i));
+    let mut n = 0;
+    for _ in 0..w.count_ones() {
+        let i = left.trailing_zeros();
+        let c = layout::cells::cell_on(page, i as usize);
         tally(cells, c, come);
-        n += crate::crossing::cross_cell(p, cells, tables, c);
+        n += cross_cell(p, cells, tables, c);
         left = layout::bits::without_bit(left, i);
-        k += 1;
     }
     n
 }
@@ -66,25 +64,22 @@ pub fn count_listed(
     cells: &[u32],
     tables: &[u32],
     list: &[u32],
-    n: usize,
     come: &mut [u32],
 ) -> usize
     requires shaped { Shaped p cells.now tables.now }
-    requires rises { Rises p.pages n list.now }
-    requires by_index { (page : ℕ) → page < p.pages → Off list.now n page → mark_of p tables.now page ≡ 0 }
+    requires rises { Rises p.pages (length list.now) list.now }
+    requires by_index { (page : ℕ) → page < p.pages → Off list.now (length list.now) page → mark_of p tables.now page ≡ 0 }
     requires small { Small p tables.now }
     requires by_index_2 { (c : ℕ) → page_of c < p.pages → marked p tables.now c ≡ 1 → Begins p cells.now tables.now c }
     requires by_index_3 { (c : ℕ) → page_of c < p.pages → marked p tables.now c ≡ 1 → work_of cells.now c < length come.old }
     requires by_index_4 { (g : ℕ) → get_or come.old g 0 ≡ 0 }
     ensures { Census p cells.now tables.now p.pages come.new result }
 {
-    let mut k: usize = 0;
-    let mut i: usize = 0;
-    while i < n {
-        let page = layout::wide(list[i]);
+    let mut k = 0;
+    for page in list {
+        let page = *page as usize;
         let w = layout::tables::mark(p, tables, page);
         k += count_page(p, cells, tables, come, w, page);
-        i += 1;
     }
     k
 }

@@ -1,6 +1,7 @@
 // How many slots would cross after the end of r, counted on the old cells: remembered slots outside r, and the survivors' own. A survivor
 // lies then where its word 1 says.
 ghost use Rattle.std.specs.Prelude.{◌≡◌, ◌<◌, ◌≤◌, length};
+ghost use Rattle.lists.specs.Counting.{bit};
 ghost use Rattle.lists.specs.Part.{Rises, Lists};
 ghost use Rattle.rules.specs.Regions.{regions};
 ghost use Rattle.layout.specs.Places.{Room, owner_of, slot_in, entries_used, cells_words};
@@ -34,21 +35,18 @@ pub fn home_after(p: Sizes, cells: &[u32], tables: &[u32], c: usize) -> u32
     layout::tables::owner(p, tables, layout::cells::page_of(c))
 }
 
-// 1 if reference x, in an object that lies in region `home` afterwards, crosses then, else 0.
-pub fn crosses(p: Sizes, cells: &[u32], tables: &[u32], home: u32, x: u32) -> usize
+// Whether reference x, in an object that lies in region `home` afterwards, crosses then.
+pub fn crosses(p: Sizes, cells: &[u32], tables: &[u32], home: u32, x: u32) -> bool
     requires room { Room p (length tables.now) }
     requires p_in_bounds { cells_words p ≤ length cells.now }
     requires fact { IsRef p cells.now tables.now x }
-    ensures { result ≡ cross_after p cells.now tables.now home x }
+    ensures { bit result ≡ cross_after p cells.now tables.now home x }
 {
     if x == 0 {
-        return 0;
+        return false;
     }
     let h = home_after(p, cells, tables, layout::cells::cell_named(x));
-    if other_region(home, h) == 0 {
-        return 0;
-    }
-    1
+    other_region(home, h) != 0
 }
 
 // How many slots of survivor c cross.
@@ -60,16 +58,15 @@ pub fn cross_cell(p: Sizes, cells: &[u32], tables: &[u32], c: usize) -> usize
 {
     let home = layout::cells::work(cells, c);
     let refs = layout::cells::field_count(Kind::Reference, layout::cells::head(cells, c));
-    let mut n: usize = 0;
-    let mut f: usize = 0;
-    while f < refs {
-        n += crosses(p, cells, tables, home, layout::cells::field(cells, c, f));
-        f += 1;
+    let mut n = 0;
+    for f in 0..refs {
+        let x = layout::cells::field(cells, c, f);
+        n += usize::from(crosses(p, cells, tables, home, x));
     }
     n
 }
 
-// 1 if the slot of entry i lies outside r and crosses, else 0.
+// Whether the slot of entry i lies outside r and crosses.
 pub fn cross_entry(
     p: Sizes,
     cells: &[u32],
@@ -77,18 +74,15 @@ pub fn cross_entry(
     tables: &[u32],
     r: u32,
     i: usize,
-) -> usize
+) -> bool
     requires shaped { Shaped p cells.now tables.now }
     requires holding { Holding p cells.now remember.now tables.now }
     requires i_bound { i < entries_used remember.now }
-    ensures { result ≡ slot_crosses p cells.now tables.now r (slot_in remember.now i) }
+    ensures { bit result ≡ slot_crosses p cells.now tables.now r (slot_in remember.now i) }
 {
-    let at = layout::wide(layout::remember::slot(p.entries, remember, i));
+    let at = layout::remember::slot(p.entries, remember, i) as usize;
     let home = layout::tables::owner(p, tables, layout::cells::page_at(at));
-    if home == r {
-        return 0;
-    }
-    crosses(p, cells, tables, home, cells[at])
+    home != r && crosses(p, cells, tables, home, cells[at])
 }
 
 // How many entries are of slots on a page: those from its first word up to its end, which stand together.
@@ -103,17 +97,15 @@ pub fn own_on(p: Sizes, remember: &[u32], page: usize) -> usize
 }
 
 // How many entries are of slots on the listed pages.
-pub fn own_entries(p: Sizes, remember: &[u32], list: &[u32], n: usize) -> usize
+pub fn own_entries(p: Sizes, remember: &[u32], list: &[u32]) -> usize
     requires table { Table p.entries remember.now }
     requires entries_bound { (p.entries ≤ 4096) × (p.pages ≤ 1024) }
-    requires rises { Rises p.pages n list.now }
-    ensures { result ≡ slots_listed remember.now list.now n }
+    requires rises { Rises p.pages (length list.now) list.now }
+    ensures { result ≡ slots_listed remember.now list.now (length list.now) }
 {
-    let mut k: usize = 0;
-    let mut i: usize = 0;
-    while i < n {
-        k += own_on(p, remember, layout::wide(list[i]));
-        i += 1;
+    let mut k = 0;
+    for page in list {
+        k += own_on(p, remember, *page as usize);
     }
     k
 }
@@ -134,11 +126,11 @@ pub fn gone_entries(
     ensures { result ≡ entries_go p cells.now remember.now tables.now r }
 {
     let last = layout::regions::last_region(p);
-    let mut n: usize = 0;
-    let mut x = layout::wide(layout::chains::first(chains, layout::wide(r)));
+    let mut n = 0;
+    let mut x = layout::chains::first(chains, r as usize) as usize;
     while 0 < x {
-        n += 1 - cross_entry(p, cells, remember, tables, r, x - 1);
-        x = layout::wide(layout::chains::next(last, chains, x - 1));
+        n += usize::from(!cross_entry(p, cells, remember, tables, r, x - 1));
+        x = layout::chains::next(last, chains, x - 1) as usize;
     }
     n
 }
@@ -152,20 +144,19 @@ pub fn cross_entries(
     tables: &[u32],
     chains: &[u32],
     list: &[u32],
-    n: usize,
     r: u32,
 ) -> usize
     requires shaped { Shaped p cells.now tables.now }
     requires holding { Holding p cells.now remember.now tables.now }
     requires others_stay { OthersStay p cells.now tables.now r }
     requires chains_whole { ChainsWhole p remember.now chains.now }
-    requires lists { Lists (λ page. owner_of p tables.now page ≡ r) p.pages n list.now }
+    requires lists { Lists (λ page. owner_of p tables.now page ≡ r) p.pages (length list.now) list.now }
     requires le_r { (1 ≤ r) × (r ≤ regions p) }
     ensures value { result ≡ entries_cross p cells.now remember.now tables.now r }
     ensures upper_bound { result ≤ 4096 }
 {
-    let all = layout::wide(layout::remember::used(remember));
-    let own = own_entries(p, remember, list, n);
+    let all = layout::remember::used(remember) as usize;
+    let own = own_entries(p, remember, list);
     all - own - gone_entries(p, cells, remember, tables, chains, r)
 }
 
@@ -177,7 +168,6 @@ pub fn count_crossing(
     tables: &[u32],
     chains: &[u32],
     list: &[u32],
-    n: usize,
     r: u32,
     k: usize,
 ) -> usize
@@ -185,10 +175,10 @@ pub fn count_crossing(
     requires holding { Holding p cells.now remember.now tables.now }
     requires others_stay { OthersStay p cells.now tables.now r }
     requires chains_whole { ChainsWhole p remember.now chains.now }
-    requires lists { Lists (λ page. owner_of p tables.now page ≡ r) p.pages n list.now }
+    requires lists { Lists (λ page. owner_of p tables.now page ≡ r) p.pages (length list.now) list.now }
     requires le_r { (1 ≤ r) × (r ≤ regions p) }
     requires k_value { (k ≡ over_marked p tables.now (cell_crosses p cells.now tables.now) p.pages) × (k ≤ cells_words p) }
     ensures { result ≡ crossing_counted p cells.now remember.now tables.now r }
 {
-    cross_entries(p, cells, remember, tables, chains, list, n, r) + k
+    cross_entries(p, cells, remember, tables, chains, list, r) + k
 }

@@ -1,5 +1,5 @@
 -- Those that cross, those of r's own slots and those into r that go are all entries.
-use Rattle.std.proofs.Common.{◌+◌, ◌≡◌, ◌∙◌, arith}
+use Rattle.std.proofs.Common.{◌+◌, ◌≡◌, ◌∙◌, arith, length}
 use Rattle.layout.specs.Places.{slot_in}
 use Rattle.layout.specs.Cells.{at-page}
 use Rattle.mark.specs.Holders.{slot-low}
@@ -9,11 +9,11 @@ use Rattle.census.specs.Going.{entries_go, all-entries, holding-table}
 use Rattle.census.proofs.crossing.cross_entries.Goals as goal
 use Rattle.census.proofs.crossing.cross_entries.Goals.{After-own_entries-own}
 
-sums : (c : goal.After-own_entries-own) → entries_cross c.args.p c.args.cells.now c.args.remember.now c.args.tables.now c.args.r + (c.own_entries-own.result + entries_go c.args.p c.args.cells.now c.args.remember.now c.args.tables.now c.args.r) ≡ c.wide-all.result
+sums : (c : goal.After-own_entries-own) → entries_cross c.args.p c.args.cells.now c.args.remember.now c.args.tables.now c.args.r + (c.own_entries-own.result + entries_go c.args.p c.args.cells.now c.args.remember.now c.args.tables.now c.args.r) ≡ c.used-all.result
 sums c =
     let a = c.args in
-    let own = own-listed a.p a.remember.now a.tables.now a.r a.n a.list.now c.requires.lists (λ i l. at-page a.p (slot_in a.remember.now i) (slot-low c.requires.holding i l)) in
-    omega (arith, all-entries c.requires.shaped c.requires.holding c.requires.others_stay, c.own_entries-own.ensures ∙ own, c.wide-all.ensures ∙ c.used.ensures)
+    let own = own-listed a.p a.remember.now a.tables.now a.r (length a.list.now) a.list.now c.requires.lists (λ i l. at-page a.p (slot_in a.remember.now i) (slot-low c.requires.holding i l)) in
+    omega (arith, all-entries c.requires.shaped c.requires.holding c.requires.others_stay, c.own_entries-own.ensures ∙ own, c.used-all.ensures)
 
 pub own_entries-own-requires : goal.own_entries-own-requires
 own_entries-own-requires c = record {
@@ -32,5 +32,5 @@ pub returns : goal.returns
 returns c =
     let e = sums (goal.at.returns c).After-own_entries-own in record {
       value = omega (arith, e, c.gone_entries.ensures);
-      upper_bound = omega (arith, c.wide-all.ensures ∙ c.used.ensures, c.requires.holding.remember.entries.room, c.requires.shaped.room.entries-high);
+      upper_bound = omega (arith, c.used-all.ensures, c.requires.holding.remember.entries.room, c.requires.shaped.room.entries-high);
     }

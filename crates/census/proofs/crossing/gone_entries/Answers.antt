@@ -1,37 +1,36 @@
-use Rattle.std.proofs.Common.{ℕ, ◌-◌, ◌≤◌, ◌≡◌, ap, ◌∙◌, arith}
-use Rattle.layout.specs.Places.{slot_in, first_in, next_in}
+use Rattle.std.proofs.Common.{ℕ, not, ◌-◌, ◌≤◌, ◌≡◌, ap, ◌∙◌, arith}
+use Rattle.lists.specs.Counting.{bit}
+use Rattle.layout.specs.Places.{next_in}
 use Rattle.chains.proofs.Walking.{Leads, first-leads, next-leads, whole_long, ahead-less}
-use Rattle.census.specs.After.{slot-le}
+use Rattle.census.proofs.Bits.{from-bit, bit-not}
 use Rattle.census.specs.Going.{walk_begins, walk-few, walk-on, walk_ends}
 use Rattle.census.proofs.crossing.gone_entries.Goals as goal
-use Rattle.census.proofs.crossing.gone_entries.Goals.{After-cross_entry, After-wide-x-in-loop-x}
+use Rattle.census.proofs.crossing.gone_entries.Goals.{After-from-n, After-next-x}
 
-crossed : (c : goal.After-cross_entry) → c.cross_entry.result ≤ 1
-crossed c =
-    let a = c.args in
-    omega (arith, c.cross_entry.ensures, slot-le a.p a.cells.now a.tables.now a.r (slot_in a.remember.now (c.loop-x.x - 1)))
+-- what this entry adds
+one : (c : goal.After-from-n) → (c.from-n.result ≡ 1 - bit c.cross_entry.result) × (c.from-n.result ≤ 1)
+one c = let e = c.from-n.ensures ∙ from-bit (not c.cross_entry.result) ∙ bit-not c.cross_entry.result in (e, omega arith)
 
 -- the next word leads on from the entry at hand
-on : (c : goal.After-wide-x-in-loop-x) → Leads c.args.r c.args.p.entries c.args.remember.now c.loop-x.x c.wide-x-in-loop-x.result
+on : (c : goal.After-next-x) → Leads c.args.r c.args.p.entries c.args.remember.now c.loop-x.x c.next-x.result
 on c =
     let a = c.args in
     next-leads c.requires.holding.remember.entries.room c.requires.chains_whole c.loop-x.invariant.leads c.loop-x-test.true
-    (c.wide-x-in-loop-x.ensures ∙ c.next.ensures ∙ ap (λ (l : ℕ). next_in l a.chains.now (c.loop-x.x - 1)) c.last_region-last.ensures)
+    (c.next-x.ensures ∙ ap (λ (l : ℕ). next_in l a.chains.now (c.loop-x.x - 1)) c.last_region-last.ensures)
 
 pub last_region-last-requires : goal.last_region-last-requires
 last_region-last-requires c = let room = c.requires.shaped.room in (room.threads-high, room.depth-high)
 
-pub first-requires : goal.first-requires
-first-requires c =
-    (omega (arith, c.wide.ensures, c.requires.le_r), omega (arith, c.wide.ensures, c.requires.le_r, whole_long c.requires.holding.remember.entries.room c.requires.chains_whole))
+pub first-x-requires : goal.first-x-requires
+first-x-requires c =
+    (omega (arith, c.requires.le_r), omega (arith, c.requires.le_r, whole_long c.requires.holding.remember.entries.room c.requires.chains_whole))
 
 pub loop-x-init : goal.loop-x-init
 loop-x-init c =
     let a = c.args in
-    let e : c.wide.result ≡ a.r = omega (arith, c.wide.ensures) in
     walk_begins a.p a.cells.now a.remember.now a.tables.now a.r
     (first-leads c.requires.holding.remember.entries.room c.requires.chains_whole a.r c.requires.le_r.0 c.requires.le_r.1
-    (c.wide-x.ensures ∙ c.first.ensures ∙ ap (first_in a.chains.now) e))
+    c.first-x.ensures)
 
 pub overflow_sub-x : goal.overflow_sub-x
 overflow_sub-x c = omega (arith, c.loop-x-test.true)
@@ -43,29 +42,26 @@ cross_entry-requires c = record {
   i_bound = omega (arith, c.loop-x-test.true, c.loop-x.invariant.leads.low);
 }
 
-pub overflow_sub-n : goal.overflow_sub-n
-overflow_sub-n c = omega (arith, crossed (goal.at.overflow_sub-n c).After-cross_entry)
-
 pub overflow_add-n : goal.overflow_add-n
 overflow_add-n c =
     let a = c.args in
     let few = walk-few a.p a.cells.now a.remember.now a.tables.now a.r c.loop-x.invariant in
-    omega (arith, few.0, c.requires.holding.remember.entries.room, c.requires.shaped.room.entries-high)
+    omega (arith, few.0, one (goal.at.overflow_add-n c).After-from-n, c.requires.holding.remember.entries.room, c.requires.shaped.room.entries-high)
 
 pub overflow_sub-x-in-loop-x : goal.overflow_sub-x-in-loop-x
 overflow_sub-x-in-loop-x c = omega (arith, c.loop-x-test.true)
 
-pub next-requires : goal.next-requires
-next-requires c =
+pub next-x-requires : goal.next-x-requires
+next-x-requires c =
     omega (arith, c.last_region-last.ensures, whole_long c.requires.holding.remember.entries.room c.requires.chains_whole, c.loop-x.invariant.leads.low, c.loop-x-test.true, c.requires.holding.remember.entries.room)
 
 pub loop-x-smaller : goal.loop-x-smaller
-loop-x-smaller c = ahead-less c.args.remember.now c.loop-x.x c.wide-x-in-loop-x.result c.loop-x-test.true c.loop-x.invariant.leads.low (on (goal.at.loop-x-smaller c).After-wide-x-in-loop-x).later
+loop-x-smaller c = ahead-less c.args.remember.now c.loop-x.x c.next-x.result c.loop-x-test.true c.loop-x.invariant.leads.low (on (goal.at.loop-x-smaller c).After-next-x).later
 
 pub loop-x-preserved : goal.loop-x-preserved
 loop-x-preserved c =
     let a = c.args in
-    walk-on a.p a.cells.now a.remember.now a.tables.now a.r c.loop-x.invariant c.loop-x-test.true (on (goal.at.loop-x-preserved c).After-wide-x-in-loop-x) c.cross_entry.ensures (omega arith)
+    walk-on a.p a.cells.now a.remember.now a.tables.now a.r c.loop-x.invariant c.loop-x-test.true (on (goal.at.loop-x-preserved c).After-next-x) c.cross_entry.ensures (omega (arith, one (goal.at.loop-x-preserved c).After-from-n))
 
 pub returns : goal.returns
 returns c =

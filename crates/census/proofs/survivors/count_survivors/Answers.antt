@@ -1,62 +1,55 @@
-use Rattle.std.proofs.Common.{◌<◌, ◌+◌, ◌≡◌, arith}
+use Rattle.std.proofs.Common.{ℕ, ◌<◌, ◌+◌, ◌≡◌, refl, sym, ap, ◌∙◌, arith, get_or, length}
 use lib.Count.{ones}
 use Rattle.lists.specs.Part.{cut-here, through-start, through-turn, through-end}
+use Rattle.layout.specs.Places.{mark_of}
 use Rattle.census.specs.Survivors.{survivors_in, survivors-few, survivors-more, survivors-skip}
 use Rattle.census.proofs.survivors.count_survivors.Goals as goal
-use Rattle.census.proofs.survivors.count_survivors.Goals.{After-mark, After-wide-page}
+use Rattle.census.proofs.survivors.count_survivors.Goals.{After-mark, In-loop-page}
 
 -- the page that the turn is at
-low : (c : goal.After-wide-page) → c.wide-page.result < c.args.p.pages
-low c = omega (arith, c.requires.rises.low c.loop-i.i (omega arith), c.wide-page.ensures)
+abbrev page : goal.In-loop-page → ℕ
+page c = get_or c.args.list.now c.loop-page.page-index 0
 
-here : (c : goal.After-wide-page) → c.loop-i.k ≡ survivors_in c.args.p c.args.tables.now c.wide-page.result
-here c =
-    let loop = c.loop-i in
-    loop.invariant.1 c.wide-page.result (cut-here loop.i c.wide-page.result c.requires.rises (omega arith) c.wide-page.ensures)
+low : (c : goal.In-loop-page) → page c < c.args.p.pages
+low c = c.requires.rises.low c.loop-page.page-index (omega arith)
+
+here : (c : goal.In-loop-page) → c.loop-page.k ≡ survivors_in c.args.p c.args.tables.now (page c)
+here c = c.loop-page.invariant (page c) (cut-here c.loop-page.page-index (page c) c.requires.rises (omega arith) refl)
 
 -- and its survivors with those before it
-more : (c : goal.After-mark) → c.wide-page.result < c.args.p.pages → c.loop-i.k ≡ survivors_in c.args.p c.args.tables.now c.wide-page.result
-    → c.loop-i.k + ones c.mark.result ≡ survivors_in c.args.p c.args.tables.now (c.wide-page.result + 1)
-more c l e =
+more : (c : goal.After-mark) → (x : ℕ) → x ≡ get_or c.args.list.now c.loop-page.page-index 0 → x < c.args.p.pages → c.loop-page.k ≡ survivors_in c.args.p c.args.tables.now x
+    → c.loop-page.k + ones c.mark.result ≡ survivors_in c.args.p c.args.tables.now (x + 1)
+more c x y l e =
     let a = c.args in
-    survivors-more a.p a.tables.now c.wide-page.result c.mark.result (ones c.mark.result) c.loop-i.k c.mark.ensures
-    (omega (arith, c.mark.ensures, c.requires.small c.wide-page.result l)) (omega arith) e
+    let m : c.mark.result ≡ mark_of a.p a.tables.now x = c.mark.ensures ∙ ap (mark_of a.p a.tables.now) (sym y) in
+    survivors-more a.p a.tables.now x c.mark.result (ones c.mark.result) c.loop-page.k m
+    (omega (arith, m, c.requires.small x l)) (omega arith) e
 
-pub loop-i-init : goal.loop-i-init
-loop-i-init c =
+pub loop-page-init : goal.loop-page-init
+loop-page-init c =
     let a = c.args in
-    (omega arith, through-start _ _ _ _ (λ q l off e. survivors-skip a.p a.tables.now q 0 (c.requires.by_index q l off) e) (omega arith))
-
-pub offset_bounds-list-i : goal.offset_bounds-list-i
-offset_bounds-list-i c = omega (arith, c.requires.rises.few)
-
-pub bounds-list-i : goal.bounds-list-i
-bounds-list-i c = omega (arith, c.requires.rises.few)
+    through-start _ _ _ _ (λ q l off e. survivors-skip a.p a.tables.now q 0 (c.requires.by_index q l off) e) (omega arith)
 
 pub mark-requires : goal.mark-requires
-mark-requires c = record { room = c.requires.room; page_lt_pages = low (goal.at.mark-requires c).After-wide-page }
+mark-requires c = record { room = c.requires.room; page_lt_pages = low (goal.at.mark-requires c).In-loop-page }
 
 pub overflow_add-k : goal.overflow_add-k
-overflow_add-k c = let a = c.args in omega (arith, more (goal.at.overflow_add-k c).After-mark (low (goal.at.overflow_add-k c).After-wide-page) (here (goal.at.overflow_add-k c).After-wide-page), survivors-few a.p a.tables.now (c.wide-page.result + 1), low (goal.at.overflow_add-k c).After-wide-page, c.requires.room.few)
-
-pub overflow_add-i : goal.overflow_add-i
-overflow_add-i c = omega arith
-
-pub loop-i-smaller : goal.loop-i-smaller
-loop-i-smaller c = omega arith
-
-pub loop-i-preserved : goal.loop-i-preserved
-loop-i-preserved c =
+overflow_add-k c =
     let a = c.args in
-    let loop = c.loop-i in (
-      omega arith,
-      through-turn a.p.pages a.n a.list.now (λ b. loop.k ≡ survivors_in a.p a.tables.now b) (λ b. loop.k + ones c.mark.result ≡ survivors_in a.p a.tables.now b)
-          loop.i c.wide-page.result c.requires.rises (omega arith) c.wide-page.ensures loop.invariant.1 (λ e. more (goal.at.loop-i-preserved c).After-mark (low (goal.at.loop-i-preserved c).After-wide-page) (here (goal.at.loop-i-preserved c).After-wide-page))
-          (λ q l off e. survivors-skip a.p a.tables.now q (loop.k + ones c.mark.result) (c.requires.by_index q l off) e),
-    )
+    let at = (goal.at.overflow_add-k c).In-loop-page in
+    omega (arith, more (goal.at.overflow_add-k c).After-mark (page at) refl (low at) (here at), survivors-few a.p a.tables.now (page at + 1), low at, c.requires.room.few)
+
+pub loop-page-preserved : goal.loop-page-preserved
+loop-page-preserved c =
+    let a = c.args in
+    let loop = c.loop-page in
+    let at = (goal.at.loop-page-preserved c).In-loop-page in
+    through-turn a.p.pages (length a.list.now) a.list.now (λ b. loop.k ≡ survivors_in a.p a.tables.now b) (λ b. loop.k + ones c.mark.result ≡ survivors_in a.p a.tables.now b)
+    loop.page-index (page at) c.requires.rises (omega arith) refl loop.invariant (λ e. more (goal.at.loop-page-preserved c).After-mark (page at) refl (low at) (here at))
+    (λ q l off e. survivors-skip a.p a.tables.now q (loop.k + ones c.mark.result) (c.requires.by_index q l off) e)
 
 pub returns : goal.returns
 returns c =
     let a = c.args in
-    let loop = c.loop-i in
-    through-end a.p.pages a.n a.list.now (λ b. loop.k ≡ survivors_in a.p a.tables.now b) loop.i c.requires.rises loop.invariant.0 (omega arith) loop.invariant.1
+    let loop = c.loop-page in
+    through-end a.p.pages (length a.list.now) a.list.now (λ b. loop.k ≡ survivors_in a.p a.tables.now b) loop.page-index c.requires.rises (omega arith) (omega arith) loop.invariant
