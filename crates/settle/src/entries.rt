@@ -1,5 +1,5 @@
 // The remember table where nothing is copied.
-ghost use Rattle.std.specs.Prelude.{◌≡◌, ℕ};
+ghost use Rattle.std.specs.Prelude.{◌≡◌, ℕ, length};
 ghost use Rattle.lists.specs.Part.{Lists};
 ghost use Rattle.layout.specs.Places.{owner_of, entries_used};
 ghost use Rattle.chains.specs.Chains.{with_chains};
@@ -20,18 +20,17 @@ pub fn keep_entries(
     tables: &[u32],
     chains: &mut [u32],
     list: &[u32],
-    n: usize,
     region: u32,
 )
     requires settles { Settles p region p.entries (entries_used remember.old) cells.now remember.old tables.now }
     requires by_index { (x : ℕ) → Copies p cells.now tables.now x → ⊥ }
-    requires lists { Lists (λ page. owner_of p tables.now page ≡ region) p.pages n list.now }
+    requires lists { Lists (λ page. owner_of p tables.now page ≡ region) p.pages (length list.now) list.now }
     requires chained { Chained p region remember.old tables.now chains.old }
     ensures updated { Updated p region p.entries (entries_used remember.old) cells.now remember.old tables.now remember.new }
     ensures chains_after { chains.new ≡ with_chains p remember.new chains.old }
 {
-    let used = layout::wide(layout::remember::used(remember));
-    let own = first_own(p, remember, list, n);
+    let used = layout::remember::used(remember) as usize;
+    let own = first_own(p, remember, list);
     let from = first_touched(chains, region, own);
     let kept = filter_entries(p, cells, remember, tables, region, from, used);
     close_entries(p.entries, remember, kept, used);

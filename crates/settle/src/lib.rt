@@ -44,18 +44,16 @@ pub fn settle_cell(
     requires room { Room p (length tables.now) }
     ensures { Settled p p.entries (Field cell (refs_of cells.old cell)) cells.old remember.old tables.now j cells.new remember.new result }
 {
-    let entries = p.entries;
     let n = layout::cells::field_count(Kind::Reference, layout::cells::head(cells, cell));
     let from = layout::tables::owner(p, tables, layout::cells::page_of(cell));
     let mut i = j;
-    let mut f: usize = 0;
-    while f < n {
+    for f in 0..n {
         let x = forward_ref(cells, layout::cells::field(cells, cell, f));
         let to = cross(p, tables, from, x);
         layout::cells::set_field(cells, cell, f, x);
         if to != 0 {
             put_entry(
-                entries,
+                p.entries,
                 remember,
                 i,
                 layout::cells::field_at(cell, f) as u32,
@@ -63,7 +61,6 @@ pub fn settle_cell(
             );
             i += 1;
         }
-        f += 1;
     }
     i
 }
@@ -83,17 +80,14 @@ pub fn settle_page(
     ensures { Settled p p.entries (CopySlot p (OnPage page) cells.old tables.now) cells.old remember.old tables.now j cells.new remember.new result }
 {
     let copied = layout::bits::upper_half(layout::tables::mark(p, tables, page));
-    let survivors = u32::count_ones(copied);
     let mut i = j;
     let mut left = copied;
-    let mut k: u32 = 0;
-    while k < survivors {
-        let a = u32::trailing_zeros(left);
-        let forward = layout::cells::work(cells, layout::cells::cell_on(page, layout::wide(a)));
+    for _ in 0..copied.count_ones() {
+        let a = left.trailing_zeros();
+        let forward = layout::cells::work(cells, layout::cells::cell_on(page, a as usize));
         let copy = layout::cells::cell_named(forward);
         i = settle_cell(p, cells, remember, tables, copy, i);
         left = layout::bits::without_bit(left, a);
-        k += 1;
     }
     i
 }
@@ -105,20 +99,17 @@ pub fn settle_copies(
     remember: &mut [u32],
     tables: &[u32],
     list: &[u32],
-    n: usize,
     j: usize,
 ) -> usize
     requires wiring { Wiring p (OnPages p.pages) cells.old tables.now }
     requires settling { Settling p p.entries (CopySlot p (OnPages p.pages) cells.old tables.now) cells.old remember.old tables.now j }
-    requires rises { Rises p.pages n list.now }
-    requires by_index { (page : ℕ) → page < p.pages → Off list.now n page → mark_of p tables.now page ≡ 0 }
+    requires rises { Rises p.pages (length list.now) list.now }
+    requires by_index { (page : ℕ) → page < p.pages → Off list.now (length list.now) page → mark_of p tables.now page ≡ 0 }
     ensures { Settled p p.entries (CopySlot p (OnPages p.pages) cells.old tables.now) cells.old remember.old tables.now j cells.new remember.new result }
 {
     let mut i = j;
-    let mut a: usize = 0;
-    while a < n {
-        i = settle_page(p, cells, remember, tables, layout::wide(list[a]), i);
-        a += 1;
+    for page in list {
+        i = settle_page(p, cells, remember, tables, *page as usize, i);
     }
     i
 }
@@ -131,22 +122,21 @@ pub fn settle(
     tables: &[u32],
     chains: &mut [u32],
     list: &[u32],
-    n: usize,
     region: u32,
 )
     requires settles { Settles p region p.entries (entries_used remember.old) cells.old remember.old tables.now }
-    requires lists { Lists (λ page. owner_of p tables.now page ≡ region) p.pages n list.now }
-    requires by_index { (page : ℕ) → page < p.pages → Off list.now n page → mark_of p tables.now page ≡ 0 }
+    requires lists { Lists (λ page. owner_of p tables.now page ≡ region) p.pages (length list.now) list.now }
+    requires by_index { (page : ℕ) → page < p.pages → Off list.now (length list.now) page → mark_of p tables.now page ≡ 0 }
     requires chained { Chained p region remember.old tables.now chains.old }
     ensures rewritten { Rewritten (Copies p cells.old tables.now) cells.old cells.new }
     ensures updated { Updated p region p.entries (entries_used remember.old) cells.new remember.old tables.now remember.new }
     ensures chains_after { chains.new ≡ with_chains p remember.new chains.old }
 {
-    let used = layout::wide(layout::remember::used(remember));
-    let own = first_own(p, remember, list, n);
+    let used = layout::remember::used(remember) as usize;
+    let own = first_own(p, remember, list);
     let from = first_touched(chains, region, own);
     let kept = filter_entries(p, cells, remember, tables, region, from, used);
-    let all = settle_copies(p, cells, remember, tables, list, n, kept);
+    let all = settle_copies(p, cells, remember, tables, list, kept);
     close_entries(p.entries, remember, all, used);
     order_entries(p.entries, remember, kept);
     renew_chains(p, remember, chains, region, from, own, used);

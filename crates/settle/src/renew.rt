@@ -19,13 +19,11 @@ pub fn renew_chains(
     requires { (m : List ℕ) × ChainsRenewed p region from own used m remember.now chains.old }
     ensures { chains.new ≡ with_chains p remember.now chains.old }
 {
-    if own == used {
-        if layout::wide(layout::remember::used(remember)) == from {
-            let last = layout::regions::last_region(p);
-            layout::chains::set_first(chains, layout::wide(region), 0);
-            layout::clear(chains, last + from, last + used);
-            return;
-        }
+    if own == used && layout::remember::used(remember) as usize == from {
+        let last = layout::regions::last_region(p);
+        layout::chains::set_first(chains, region as usize, 0);
+        layout::clear(chains, last + from, last + used);
+    } else {
+        chains::rebuild(p, remember, chains);
     }
-    chains::rebuild(p, remember, chains);
 }

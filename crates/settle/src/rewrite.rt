@@ -27,7 +27,7 @@ pub fn forward_ref(cells: &[u32], x: u32) -> u32
     forward
 }
 
-// The remembered slots that point into the region: those along its chain.
+// The remembered slots that point into the region: those along its chain, whose words are 0 at the end, else one more than an entry's place.
 pub fn rewrite_slots(p: Sizes, cells: &mut [u32], remember: &[u32], chains: &[u32], region: u32)
     requires slots { Slots p region p.entries (entries_used remember.now) cells.old remember.now }
     requires chains_whole { ChainsWhole p remember.now chains.now }
@@ -36,12 +36,12 @@ pub fn rewrite_slots(p: Sizes, cells: &mut [u32], remember: &[u32], chains: &[u3
 {
     let entries = p.entries;
     let last = layout::regions::last_region(p);
-    let mut x = layout::wide(layout::chains::first(chains, layout::wide(region)));
+    let mut x = layout::chains::first(chains, region as usize) as usize;
     while x != 0 {
         let i = x - 1;
-        let at = layout::wide(layout::remember::slot(entries, remember, i));
+        let at = layout::remember::slot(entries, remember, i) as usize;
         cells[at] = forward_ref(cells, cells[at]);
-        x = layout::wide(layout::chains::next(last, chains, i));
+        x = layout::chains::next(last, chains, i) as usize;
     }
 }
 
@@ -52,11 +52,8 @@ pub fn rewrite_variables(p: Sizes, cells: &[u32], tables: &mut [u32])
     requires room { Room p (length tables.old) }
     ensures { Variables p (var_count p) cells.now tables.old tables.new }
 {
-    let n = layout::tables::var_count(p);
-    let mut i: usize = 0;
-    while i < n {
+    for i in 0..layout::tables::var_count(p) {
         let x = forward_ref(cells, layout::tables::var(p, tables, i));
         layout::tables::set_var(p, tables, i, x);
-        i += 1;
     }
 }

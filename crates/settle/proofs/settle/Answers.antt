@@ -1,6 +1,6 @@
 -- The entries that stay, those before the first that is touched as they are; then those of the copies, which are rewritten on the way, then zeros;
 -- and those of the copies are sorted in.
-use Rattle.std.proofs.Common.{arith, ℕ, List, ◌≡◌, sym, ◌∙◌, subst}
+use Rattle.std.proofs.Common.{arith, ℕ, List, ◌≡◌, sym, subst}
 use Rattle.rules.specs.declared.Sizes.{Sizes}
 use Rattle.layout.specs.Places.{entries_used}
 use Rattle.chains.proofs.Walking.{whole_long}
@@ -16,11 +16,11 @@ settles {p} {r} {n} {W = W} {M = M} {T = T} s e = subst (λ (x : ℕ). Settles p
 updated : (c : goal.After-order_entries) → (let a = c.args in Updated a.p a.region a.p.entries (entries_used a.remember.now) c.settle_copies-all.new.cells a.remember.now a.tables.now c.order_entries.new.remember)
 updated c =
     let a = c.args in
-    subst (λ (y : ℕ). Updated a.p a.region a.p.entries y c.settle_copies-all.new.cells a.remember.now a.tables.now c.order_entries.new.remember) (c.wide-used.ensures ∙ c.used.ensures)
-    (settles-updated (settles c.requires.settles (c.wide-used.ensures ∙ c.used.ensures)) c.filter_entries-kept.ensures.added c.filter_entries-kept.ensures.rising c.settle_copies-all.ensures c.close_entries.ensures c.order_entries.ensures)
+    subst (λ (y : ℕ). Updated a.p a.region a.p.entries y c.settle_copies-all.new.cells a.remember.now a.tables.now c.order_entries.new.remember) c.used-used.ensures
+    (settles-updated (settles c.requires.settles c.used-used.ensures) c.filter_entries-kept.ensures.added c.filter_entries-kept.ensures.rising c.settle_copies-all.ensures c.close_entries.ensures c.order_entries.ensures)
 
-pub used-requires : goal.used-requires
-used-requires c = omega (arith, c.requires.settles.entries.long)
+pub used-used-requires : goal.used-used-requires
+used-used-requires c = omega (arith, c.requires.settles.entries.long)
 
 pub first_own-own-requires : goal.first_own-own-requires
 first_own-own-requires c = record {
@@ -36,35 +36,35 @@ first_touched-from-requires c =
 
 pub filter_entries-kept-requires : goal.filter_entries-kept-requires
 filter_entries-kept-requires c = record {
-  entries = (settles c.requires.settles (c.wide-used.ensures ∙ c.used.ensures)).entries;
+  entries = (settles c.requires.settles c.used-used.ensures).entries;
   room = c.requires.settles.wiring.tables-long;
-  from_le_used = omega (arith, c.wide-used.ensures, c.used.ensures, c.first_own-own.ensures.upper_bound, c.first_touched-from.ensures.upper_bound);
+  from_le_used = omega (arith, c.used-used.ensures, c.first_own-own.ensures.upper_bound, c.first_touched-from.ensures.upper_bound);
   unchanged = passed c.requires.settles c.requires.chained c.requires.lists c.first_own-own.ensures.upper_bound c.first_own-own.ensures.not_own (omega (arith, c.first_touched-from.ensures.upper_bound)) c.first_touched-from.ensures.upper_bound_2 c.args.cells.now;
 }
 
 pub settle_copies-all-requires : goal.settle_copies-all-requires
 settle_copies-all-requires c = record {
   wiring = c.requires.settles.wiring;
-  settling = settle-asks (settles c.requires.settles (c.wide-used.ensures ∙ c.used.ensures)) c.filter_entries-kept.ensures.added;
+  settling = settle-asks (settles c.requires.settles c.used-used.ensures) c.filter_entries-kept.ensures.added;
   rises = c.requires.lists.rises;
   by_index = c.requires.by_index;
 }
 
 pub close_entries-requires : goal.close_entries-requires
 close_entries-requires c =
-    let e = (settles c.requires.settles (c.wide-used.ensures ∙ c.used.ensures)).entries in record {
+    let e = (settles c.requires.settles c.used-used.ensures).entries in record {
       entries_bound = (omega (arith, c.requires.settles.wiring.tables-long.entries-high), c.settle_copies-all.ensures.added.low, e.few);
       entries_in_bounds = omega (arith, e.long, c.settle_copies-all.auto.remember, c.filter_entries-kept.auto.remember);
     }
 
 pub order_entries-requires : goal.order_entries-requires
 order_entries-requires c = record {
-  gathered = (settles-appended (settles c.requires.settles (c.wide-used.ensures ∙ c.used.ensures)) c.filter_entries-kept.ensures.added c.filter_entries-kept.ensures.rising c.settle_copies-all.ensures c.close_entries.ensures).gathered;
+  gathered = (settles-appended (settles c.requires.settles c.used-used.ensures) c.filter_entries-kept.ensures.added c.filter_entries-kept.ensures.rising c.settle_copies-all.ensures c.close_entries.ensures).gathered;
   entries_bound = c.requires.settles.wiring.tables-long.entries-high;
 }
 
 pub renew_chains-requires : goal.renew_chains-requires
-renew_chains-requires c = (c.args.remember.now, renew-ask c.requires.settles c.requires.chained c.requires.lists c.first_own-own.ensures.upper_bound c.first_own-own.ensures.not_own (omega (arith, c.first_touched-from.ensures.upper_bound)) c.first_touched-from.ensures.upper_bound_2 (c.wide-used.ensures ∙ c.used.ensures) (updated (goal.at.renew_chains-requires c).After-order_entries))
+renew_chains-requires c = (c.args.remember.now, renew-ask c.requires.settles c.requires.chained c.requires.lists c.first_own-own.ensures.upper_bound c.first_own-own.ensures.not_own (omega (arith, c.first_touched-from.ensures.upper_bound)) c.first_touched-from.ensures.upper_bound_2 c.used-used.ensures (updated (goal.at.renew_chains-requires c).After-order_entries))
 
 pub returns : goal.returns
 returns c = record {

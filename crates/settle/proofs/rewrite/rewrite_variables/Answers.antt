@@ -1,4 +1,4 @@
-use Rattle.std.proofs.Common.{arith, ℕ, ◌<◌, ◌+◌, List, ◌≡◌, refl, sym, ap, ◌∙◌, subst, mul-le-mul}
+use Rattle.std.proofs.Common.{arith, ℕ, ◌<◌, ◌+◌, List, ◌≡◌, sym, ap, ◌∙◌, subst}
 use Rattle.layout.specs.Places.{var_count, var_of}
 use Rattle.layout.specs.Cells.{cell_in}
 use Rattle.copy.specs.Taking.{room-same}
@@ -8,39 +8,32 @@ use Rattle.settle.specs.RewriteSlots.{Variables, variables-start, variables-next
 use Rattle.settle.proofs.rewrite.rewrite_variables.Goals as goal
 use Rattle.settle.proofs.rewrite.rewrite_variables.Goals.{In-loop-i}
 
-pub var_count-n-requires : goal.var_count-n-requires
-var_count-n-requires c = (c.requires.room.threads-high, c.requires.room.variables-high)
+pub var_count-i-end-requires : goal.var_count-i-end-requires
+var_count-i-end-requires c = (c.requires.room.threads-high, c.requires.room.variables-high)
 
 pub loop-i-init : goal.loop-i-init
-loop-i-init c = (omega arith, refl, variables-start _ _ _)
+loop-i-init c = variables-start _ _ _
 
 low : (c : goal.In-loop-i) → c.loop-i.i < var_count c.args.p
 low c =
-    subst (λ (n : ℕ). c.loop-i.i < n) c.var_count-n.ensures c.loop-i-test.true
+    subst (λ (n : ℕ). c.loop-i.i < n) c.var_count-i-end.ensures c.loop-i-test.true
 
 pub var-requires : goal.var-requires
 var-requires c = record {
-  room = room-same c.loop-i.invariant.1 c.requires.room;
+  room = room-same c.loop-i.invariant.size c.requires.room;
   i_bound = low (goal.at.var-requires c).In-loop-i;
 }
 
 pub forward_ref-x-requires : goal.forward_ref-x-requires
 forward_ref-x-requires c =
     let l = c.loop-i in
-    λ ne. cell_in c.args.p c.requires.room.few c.requires.p_in_bounds (subst (λ (x : ℕ). Names c.args.p x) (sym c.var.ensures) (variables-names l.invariant.2 (c.requires.by_index l.i (low (goal.at.forward_ref-x-requires c).In-loop-i))) ne)
+    λ ne. cell_in c.args.p c.requires.room.few c.requires.p_in_bounds (subst (λ (x : ℕ). Names c.args.p x) (sym c.var.ensures) (variables-names l.invariant (c.requires.by_index l.i (low (goal.at.forward_ref-x-requires c).In-loop-i))) ne)
 
 pub set_var-requires : goal.set_var-requires
 set_var-requires c = record {
-  room = room-same c.loop-i.invariant.1 c.requires.room;
+  room = room-same c.loop-i.invariant.size c.requires.room;
   i_bound = low (goal.at.set_var-requires c).In-loop-i;
 }
-
-pub overflow_add-i : goal.overflow_add-i
-overflow_add-i c =
-    omega (arith, mul-le-mul c.requires.room.threads-high c.requires.room.variables-high)
-
-pub loop-i-smaller : goal.loop-i-smaller
-loop-i-smaller c = omega arith
 
 pub loop-i-preserved : goal.loop-i-preserved
 loop-i-preserved c =
@@ -49,17 +42,12 @@ loop-i-preserved c =
     let l = c.loop-i in
     let ev : forward-ref.result ≡ forwarded a.cells.now (var_of a.p l.tables l.i) =
     forward-ref.ensures ∙ ap (λ (x : ℕ). forwarded a.cells.now x) c.var.ensures in
-    let h : Variables a.p (l.i + 1) a.cells.now a.tables.now c.set_var.new.tables =
     subst (λ (X : List ℕ). Variables a.p (l.i + 1) a.cells.now a.tables.now X) (sym c.set_var.ensures)
-    (variables-next (low (goal.at.loop-i-preserved c).In-loop-i) c.requires.room l.invariant.2 forward-ref.result ev) in
-    (omega (arith, low (goal.at.loop-i-preserved c).In-loop-i), h.size, h)
-
-pub shape_of-tables : goal.shape_of-tables
-shape_of-tables c = c.loop-i.invariant.1
+    (variables-next (low (goal.at.loop-i-preserved c).In-loop-i) c.requires.room l.invariant forward-ref.result ev)
 
 pub returns : goal.returns
 returns c =
     let a = c.args in
     let l = c.loop-i in
-    let e : l.i ≡ var_count a.p = omega (arith, l.invariant.0) in
-    subst (λ (y : ℕ). Variables a.p y a.cells.now a.tables.now l.tables) e l.invariant.2
+    let e : l.i ≡ var_count a.p = omega (arith, c.var_count-i-end.ensures) in
+    subst (λ (y : ℕ). Variables a.p y a.cells.now a.tables.now l.tables) e l.invariant

@@ -1,13 +1,7 @@
 -- No entry's slot lies on a listed page before the one at hand.
-use Rattle.std.proofs.Common.{◌-◌, ◌≤◌, ◌≡◌}
-use Rattle.layout.specs.Places.{entries_used}
 use Rattle.settle.specs.Touched.{PagesPassed}
 use Rattle.settle.proofs.touched.first_own.Given as goal
 
-abbrev pub invariant-loop-a : goal.invariant-loop-a
-invariant-loop-a l =
-    (l.a ≤ l.n) × (l.used ≡ entries_used l.remember) × PagesPassed l.list l.a l.remember
-
-abbrev pub decreases-loop-a : goal.decreases-loop-a
-decreases-loop-a l =
-    l.n - l.a
+abbrev pub invariant-loop-page : goal.invariant-loop-page
+invariant-loop-page l =
+    PagesPassed l.list l.page-index l.remember
