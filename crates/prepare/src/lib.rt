@@ -2,32 +2,28 @@
 #![tactic(auto)]
 
 ghost use Rattle.std.specs.Prelude.{◌≡◌, List, ℕ, length};
+ghost use Rattle.rules.specs.Refusals.{asked};
 ghost use Rattle.promises.specs.Slices.{slices};
 ghost use Rattle.promises.specs.Promises.{PrepareAsked, Prepared};
 ghost use Rattle.prepare.specs.Prepare.{sizes};
 
-use rules::Sizes;
+use rules::{Refusal, Sizes};
 
-// Questions 1 and 2, of slices of these lengths: the number of the one that says no, 0 if none does.
-fn ask(s: Sizes, cells: usize, remember: usize, tables: usize, chains: usize) -> u32
-    ensures { (c m t k : List ℕ) → length c ≡ cells → length m ≡ remember → length t ≡ tables → length k ≡ chains → PrepareAsked s (slices c m t k) result }
+// Questions 1 and 2, of slices of these lengths: the first that says no, if one does.
+fn ask(s: Sizes, cells: usize, remember: usize, tables: usize, chains: usize) -> Result<(), Refusal>
+    ensures { (c m t k : List ℕ) → length c ≡ cells → length m ≡ remember → length t ≡ tables → length k ≡ chains → PrepareAsked s (slices c m t k) (asked result) }
 {
     if !layout::in_range(s) {
-        return 1;
+        return Err(Refusal::Sizes);
     }
-    if cells < layout::lengths::cells_words(s) {
-        return 2;
+    if cells < layout::lengths::cells_words(s)
+        || remember < layout::lengths::remember_words(s)
+        || tables < layout::lengths::tables_words(s)
+        || chains < layout::lengths::chains_words(s)
+    {
+        return Err(Refusal::Short);
     }
-    if remember < layout::lengths::remember_words(s) {
-        return 2;
-    }
-    if tables < layout::lengths::tables_words(s) {
-        return 2;
-    }
-    if chains < layout::lengths::chains_words(s) {
-        return 2;
-    }
-    0
+    Ok(())
 }
 
 // Writes the words of an unused heap of these sizes, every one up to the four lengths, cells (02, W1) and chains (02, W6) with zeros. Gives 0, or on
@@ -46,15 +42,14 @@ pub fn taldreku_prepare(
     ensures { Prepared (sizes threads variables depth pages entries) (slices cells.old remember.old tables.old chains.old) result (slices cells.new remember.new tables.new chains.new) }
 {
     let s = Sizes {
-        threads: layout::wide(threads),
-        variables: layout::wide(variables),
-        depth: layout::wide(depth),
-        pages: layout::wide(pages),
-        entries: layout::wide(entries),
+        threads: threads as usize,
+        variables: variables as usize,
+        depth: depth as usize,
+        pages: pages as usize,
+        entries: entries as usize,
     };
-    let q = ask(s, cells.len(), remember.len(), tables.len(), chains.len());
-    if q != 0 {
-        return q;
+    if let Err(refusal) = ask(s, cells.len(), remember.len(), tables.len(), chains.len()) {
+        return refusal.number();
     }
     layout::clear(cells, 0, layout::lengths::cells_words(s));
     layout::clear(tables, 0, layout::lengths::tables_words(s));
