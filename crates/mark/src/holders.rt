@@ -18,10 +18,7 @@ fn is_own(p: Sizes, thread: usize, i: usize) -> bool
     ensures { Says result (var_thread p i ≡ thread) }
 {
     let first = thread * p.variables;
-    if i < first {
-        return false;
-    }
-    i < first + p.variables
+    first <= i && i < first + p.variables
 }
 
 // The region that variable i calls for: outer if it is the ending thread's, else the control space.
@@ -29,10 +26,7 @@ pub fn variable_calls(p: Sizes, thread: usize, outer: u32, i: usize) -> u32
     requires { (1 ≤ p.variables) × (p.variables ≤ 32) × (thread ≤ 16) }
     ensures { result ≡ var_calls p thread outer i }
 {
-    if !is_own(p, thread, i) {
-        return 1;
-    }
-    outer
+    if is_own(p, thread, i) { outer } else { 1 }
 }
 
 // What variable i holds if it calls for g, else null.
@@ -62,7 +56,7 @@ pub fn slot_for(
     requires i_lt_entries { (i < p.entries) × (slot_in remember.now i < cells_words p) × (slot_region_in p.entries remember.now i ≡ r) }
     ensures { result ≡ slot_held p cells.now remember.now tables.now r g i }
 {
-    let at = layout::wide(layout::remember::slot(p.entries, remember, i));
+    let at = layout::remember::slot(p.entries, remember, i) as usize;
     if joins::join(
         p,
         r,
@@ -90,18 +84,13 @@ pub fn push_variables(
     requires thread_bound { thread ≤ 16 }
     ensures { Pushing p r (var_held p tables.old thread outer g) cells.old tables.old top cells.new tables.new result (var_count p) }
 {
-    if g != 1 {
-        if g != outer {
-            return top;
-        }
+    if g != 1 && g != outer {
+        return top;
     }
-    let n = layout::tables::var_count(p);
     let mut t = top;
-    let mut i: usize = 0;
-    while i < n {
+    for i in 0..layout::tables::var_count(p) {
         let x = variable_for(p, tables, thread, outer, g, i);
         t = push(p, cells, tables, r, x, t);
-        i += 1;
     }
     t
 }
@@ -125,9 +114,9 @@ pub fn push_slots(
 {
     let last = layout::regions::last_region(p);
     let mut t = top;
-    let mut x = layout::chains::first(chains, layout::wide(r));
+    let mut x = layout::chains::first(chains, r as usize);
     while x != 0 {
-        let i = layout::wide(x) - 1;
+        let i = x as usize - 1;
         let y = slot_for(p, cells, remember, tables, r, g, i);
         t = push(p, cells, tables, r, y, t);
         x = layout::chains::next(last, chains, i);

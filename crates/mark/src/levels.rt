@@ -36,16 +36,13 @@ pub fn mark_levels(
     ensures says { Says result (AnyMarked p tables.new) }
 {
     let mut found = false;
-    let mut left = depth;
-    while left != 0 {
-        let level = depth - left;
+    for level in 0..depth {
         let g = layout::regions::region_at(p, thread, level);
         let held = push_variables(p, cells, tables, r, thread, outer, g, 0);
         let top = push_slots(p, cells, remember, tables, chains, r, g, held);
         if drain(p, cells, tables, r, g, top) != 0 {
             found = true;
         }
-        left -= 1;
     }
     found
 }

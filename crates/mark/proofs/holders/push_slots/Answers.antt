@@ -12,26 +12,25 @@ last_region-last-requires c =
 
 pub first-x-requires : goal.first-x-requires
 first-x-requires c =
-    omega (arith, c.wide.ensures, c.requires.le_r, whole_long c.requires.holding.remember.entries.room c.requires.chains_whole)
+    omega (arith, c.requires.le_r, whole_long c.requires.holding.remember.entries.room c.requires.chains_whole)
 
 pub loop-x-init : goal.loop-x-init
 loop-x-init c =
-    (refl, refl, along-start c.requires.holding.remember.entries.room c.requires.chains_whole c.requires.le_r.0 c.requires.le_r.1 c.wide.ensures c.first-x.ensures)
+    (refl, refl, along-start c.requires.holding.remember.entries.room c.requires.chains_whole c.requires.le_r.0 c.requires.le_r.1 refl c.first-x.ensures)
 
 pub overflow_sub-i : goal.overflow_sub-i
-overflow_sub-i c = omega (arith, c.wide-i.ensures, c.loop-x-test.true)
+overflow_sub-i c = omega (arith, c.loop-x-test.true)
 
 pub slot_for-y-requires : goal.slot_for-y-requires
 slot_for-y-requires c =
     let loop = c.loop-x in
     let a = loop.invariant.2 in
     let pos : 0 < loop.x = omega (arith, c.loop-x-test.true) in
-    let e = c.wide-i.ensures in
-    let lt = along-low a pos e in
+    let lt = along-low a pos refl in
     let s = pushing-shaped c.requires.shaped a.pushed in record {
       room = s.room;
       p_in_bounds = (s.cells-long, c.requires.holding.long);
-      i_lt_entries = (omega (arith, lt, c.requires.holding.remember.entries.room), slot-low c.requires.holding _ lt, along-region a pos e);
+      i_lt_entries = (omega (arith, lt, c.requires.holding.remember.entries.room), slot-low c.requires.holding _ lt, along-region a pos refl);
     }
 
 pub push-t-requires : goal.push-t-requires
@@ -39,9 +38,8 @@ push-t-requires c =
     let loop = c.loop-x in
     let a = loop.invariant.2 in
     let pos : 0 < loop.x = omega (arith, c.loop-x-test.true) in
-    let e = c.wide-i.ensures in
-    let lt = along-low a pos e in
-    let h = along-here a pos e in
+    let lt = along-low a pos refl in
+    let h = along-here a pos refl in
     let k = pushing-kept c.requires.shaped h in record {
       shaped = pushing-shaped c.requires.shaped h;
       fact = ref-read c.requires.shaped h (slot-held-ref c.requires.shaped c.requires.holding _ _ _ lt) c.slot_for-y.result (c.slot_for-y.ensures ∙ kept-slot-held k c.requires.shaped.room c.requires.holding _ _ _ lt);
@@ -53,14 +51,14 @@ next-x-requires c =
     let a = loop.invariant.2 in
     let pos : 0 < loop.x = omega (arith, c.loop-x-test.true) in
     let room = c.requires.holding.remember.entries.room in
-    omega (arith, along-low a pos c.wide-i.ensures, room, c.last_region-last.ensures, whole_long room c.requires.chains_whole)
+    omega (arith, along-low a pos refl, room, c.last_region-last.ensures, whole_long room c.requires.chains_whole)
 
 pub loop-x-smaller : goal.loop-x-smaller
 loop-x-smaller c =
     let loop = c.loop-x in
     let a = loop.invariant.2 in
     let pos : 0 < loop.x = omega (arith, c.loop-x-test.true) in
-    let n = leads-on c.requires.holding.remember.entries.room c.requires.chains_whole a pos c.wide-i.ensures c.last_region-last.ensures c.next-x.ensures in
+    let n = leads-on c.requires.holding.remember.entries.room c.requires.chains_whole a pos refl c.last_region-last.ensures c.next-x.ensures in
     ahead-less c.args.remember.now _ _ pos a.leads.low n.later
 
 pub loop-x-preserved : goal.loop-x-preserved
@@ -69,12 +67,11 @@ loop-x-preserved c =
     let loop = c.loop-x in
     let a = loop.invariant.2 in
     let pos : 0 < loop.x = omega (arith, c.loop-x-test.true) in
-    let e = c.wide-i.ensures in
-    let lt = along-low a pos e in
-    let k = pushing-kept c.requires.shaped (along-here a pos e) in
-    let h = push-read c.requires.shaped (along-here a pos e) (slot-held-ref c.requires.shaped c.requires.holding _ _ _ lt) slot-for.result (slot-for.ensures ∙ kept-slot-held k c.requires.shaped.room c.requires.holding _ _ _ lt) c.push-t.ensures in
+    let lt = along-low a pos refl in
+    let k = pushing-kept c.requires.shaped (along-here a pos refl) in
+    let h = push-read c.requires.shaped (along-here a pos refl) (slot-held-ref c.requires.shaped c.requires.holding _ _ _ lt) slot-for.result (slot-for.ensures ∙ kept-slot-held k c.requires.shaped.room c.requires.holding _ _ _ lt) c.push-t.ensures in
     let k' = pushing-kept c.requires.shaped h in
-    (k'.cells-length, k'.tables-length, along-next c.requires.holding.remember.entries.room c.requires.chains_whole a pos e c.last_region-last.ensures c.next-x.ensures h)
+    (k'.cells-length, k'.tables-length, along-next c.requires.holding.remember.entries.room c.requires.chains_whole a pos refl c.last_region-last.ensures c.next-x.ensures h)
 
 pub shape_of-cells : goal.shape_of-cells
 shape_of-cells c = c.loop-x.invariant.0

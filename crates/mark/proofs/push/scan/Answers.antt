@@ -1,64 +1,62 @@
-use Rattle.std.proofs.Common.{◌≡◌, refl, ap, ◌∙◌, subst, ℕ, ◌<◌, arith}
+use Rattle.std.proofs.Common.{◌≡◌, ◌≤◌, refl, ap, ◌∙◌, subst, ℕ, ◌<◌, arith}
 use Rattle.layout.specs.declared.Kind.TheVariants.{Reference}
-use Rattle.layout.specs.Cells.{field_of, refs_of, field_count}
+use Rattle.layout.specs.Cells.{field_of, refs_of, field_count, most_fields}
 use Rattle.layout.specs.Objects.{begins-page}
 use Rattle.mark.specs.Marks.{shaped-few, kept_field}
 use Rattle.mark.specs.Pushes.{Pushing, Pushing.none, pushing-kept, pushing-shaped, ref-read, push-read}
 use Rattle.mark.proofs.push.scan.Goals as goal
+use Rattle.mark.proofs.push.scan.Goals.{After-field_count-n}
+
+refs : (c : goal.After-field_count-n) → (c.field_count-n.result ≡ refs_of c.args.cells.now c.args.c) × (c.field_count-n.result ≤ most_fields)
+refs c =
+    let e : c.field_count-n.result ≡ refs_of c.args.cells.now c.args.c = c.field_count-n.ensures ∙ ap (field_count Reference) c.head.ensures in
+    (e, omega (arith, shaped-few c.requires.shaped c.args.c c.requires.begins))
 
 pub head-requires : goal.head-requires
 head-requires c =
     omega (arith, begins-page _ _ _ _ c.requires.begins, c.requires.shaped.cells-long, c.requires.shaped.room)
 
 pub loop-f-init : goal.loop-f-init
-loop-f-init c =
-    let args = c.args in
-    let e : c.field_count-n.result ≡ refs_of args.cells.now args.c = c.field_count-n.ensures ∙ ap (field_count Reference) c.head.ensures in
-    (omega arith, e, omega (arith, shaped-few c.requires.shaped args.c c.requires.begins), refl, refl, none)
+loop-f-init c = (refl, refl, none)
 
 pub field-requires : goal.field-requires
 field-requires c =
-    omega (arith, begins-page _ _ _ _ c.requires.begins, c.requires.shaped.cells-long, c.requires.shaped.room)
+    omega (arith, begins-page _ _ _ _ c.requires.begins, c.requires.shaped.cells-long, c.requires.shaped.room, refs (goal.at.field-requires c).After-field_count-n)
 
 pub push-t-requires : goal.push-t-requires
 push-t-requires c =
     let args = c.args in
     let l = c.loop-f in
+    let n = refs (goal.at.push-t-requires c).After-field_count-n in
     let lt : l.f < refs_of args.cells.now args.c = omega arith in
-    let h = l.invariant.5 in record {
+    let h = l.invariant.2 in record {
       shaped = pushing-shaped c.requires.shaped h;
       fact = ref-read c.requires.shaped h ((c.requires.shaped.objects args.c c.requires.begins).references l.f lt) c.field.result (c.field.ensures ∙ kept_field (pushing-kept c.requires.shaped h) args.c l.f (omega arith));
     }
-
-pub overflow_add-f : goal.overflow_add-f
-overflow_add-f c =
-    omega arith
-
-pub loop-f-smaller : goal.loop-f-smaller
-loop-f-smaller c =
-    omega arith
 
 pub loop-f-preserved : goal.loop-f-preserved
 loop-f-preserved c =
     let args = c.args in
     let field = c.field in
     let l = c.loop-f in
+    let n = refs (goal.at.loop-f-preserved c).After-field_count-n in
     let lt : l.f < refs_of args.cells.now args.c = omega arith in
-    let h = push-read c.requires.shaped l.invariant.5 ((c.requires.shaped.objects args.c c.requires.begins).references l.f lt) field.result (field.ensures ∙ kept_field (pushing-kept c.requires.shaped l.invariant.5) args.c l.f (omega arith)) c.push-t.ensures in
+    let h = push-read c.requires.shaped l.invariant.2 ((c.requires.shaped.objects args.c c.requires.begins).references l.f lt) field.result (field.ensures ∙ kept_field (pushing-kept c.requires.shaped l.invariant.2) args.c l.f (omega arith)) c.push-t.ensures in
     let k = pushing-kept c.requires.shaped h in
-    (omega arith, l.invariant.1, l.invariant.2, k.cells-length, k.tables-length, h)
+    (k.cells-length, k.tables-length, h)
 
 pub shape_of-cells : goal.shape_of-cells
 shape_of-cells c =
-    c.loop-f.invariant.3
+    c.loop-f.invariant.0
 
 pub shape_of-tables : goal.shape_of-tables
 shape_of-tables c =
-    c.loop-f.invariant.4
+    c.loop-f.invariant.1
 
 pub returns : goal.returns
 returns c =
     let args = c.args in
     let l = c.loop-f in
+    let n = refs (goal.at.returns c).After-field_count-n in
     let e : l.f ≡ refs_of args.cells.now args.c = omega arith in
-    subst (λ (f : ℕ). Pushing args.p args.r (field_of args.cells.now args.c) args.cells.now args.tables.now args.top l.cells l.tables l.t f) e l.invariant.5
+    subst (λ (f : ℕ). Pushing args.p args.r (field_of args.cells.now args.c) args.cells.now args.tables.now args.top l.cells l.tables l.t f) e l.invariant.2

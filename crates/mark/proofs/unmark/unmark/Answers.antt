@@ -1,68 +1,60 @@
-use Rattle.std.proofs.Common.{◌<◌, refl, sym, ◌∙◌, subst, arith}
+use Rattle.std.proofs.Common.{ℕ, ◌<◌, refl, sym, ◌∙◌, subst, arith, get_or, length}
 use Rattle.lists.specs.Part.{through-start, through-turn, through-end, cut-here}
 use Rattle.layout.specs.Places.{Room}
 use Rattle.mark.specs.Unmark.{unmark-start, unmark-word, unmark-turn, unmark-skips}
 use Rattle.mark.proofs.unmark.unmark.Goals as goal
+use Rattle.mark.proofs.unmark.unmark.Goals.{In-loop-page}
 
-pub loop-i-init : goal.loop-i-init
-loop-i-init c =
+-- the page that the turn is at
+abbrev page : goal.In-loop-page → ℕ
+page c = get_or c.args.list.now c.loop-page.page-index 0
+
+low : (c : goal.In-loop-page) → page c < c.args.p.pages
+low c = c.requires.rises.low c.loop-page.page-index (omega arith)
+
+pub loop-page-init : goal.loop-page-init
+loop-page-init c =
     let args = c.args in
-    (omega arith, refl, refl, through-start _ _ _ _ (unmark-skips _ args.n args.list.now _ _ _ _ (omega (arith, c.requires.room)) c.requires.by_index) (unmark-start _ _ _))
-
-pub offset_bounds-list-i : goal.offset_bounds-list-i
-offset_bounds-list-i c = omega arith
-
-pub bounds-list-i : goal.bounds-list-i
-bounds-list-i c = omega (arith, c.requires.rises.few)
+    (refl, refl, through-start _ _ _ _ (unmark-skips _ (length args.list.now) args.list.now _ _ _ _ (omega (arith, c.requires.room)) c.requires.by_index) (unmark-start _ _ _))
 
 pub mark-requires : goal.mark-requires
-mark-requires c =
-    let loop = c.loop-i in record {
-      room = subst (Room c.args.p) (sym loop.invariant.2) c.requires.room;
-      page_lt_pages = omega (arith, c.requires.rises.low loop.i c.loop-i-test.true, c.wide-page.ensures);
-    }
+mark-requires c = record {
+  room = subst (Room c.args.p) (sym c.loop-page.invariant.1) c.requires.room;
+  page_lt_pages = low (goal.at.mark-requires c).In-loop-page;
+}
 
 pub unmark_page-requires : goal.unmark_page-requires
 unmark_page-requires c =
-    let loop = c.loop-i in
-    let page = c.wide-page in
-    let low : page.result < c.args.p.pages = omega (arith, c.requires.rises.low loop.i c.loop-i-test.true, page.ensures) in
-    let u = loop.invariant.3 page.result (cut-here loop.i page.result c.requires.rises c.loop-i-test.true page.ensures) in
-    (omega (arith, c.mark.ensures, unmark-word u, c.requires.small page.result low), omega (arith, c.requires.room), omega (arith, c.requires.p_in_bounds, loop.invariant.1))
+    let loop = c.loop-page in
+    let at = (goal.at.unmark_page-requires c).In-loop-page in
+    let l = low at in
+    let u = loop.invariant.2 (page at) (cut-here loop.page-index (page at) c.requires.rises (omega arith) refl) in
+    (omega (arith, c.mark.ensures, unmark-word u, c.requires.small (page at) l), omega (arith, c.requires.room), omega (arith, c.requires.p_in_bounds, loop.invariant.0))
 
 pub set_mark-requires : goal.set_mark-requires
-set_mark-requires c =
-    let loop = c.loop-i in record {
-      room = subst (Room c.args.p) (sym loop.invariant.2) c.requires.room;
-      page_lt_pages = omega (arith, c.requires.rises.low loop.i c.loop-i-test.true, c.wide-page.ensures);
-    }
+set_mark-requires c = record {
+  room = subst (Room c.args.p) (sym c.loop-page.invariant.1) c.requires.room;
+  page_lt_pages = low (goal.at.set_mark-requires c).In-loop-page;
+}
 
-pub overflow_add-i : goal.overflow_add-i
-overflow_add-i c = omega (arith, c.requires.rises.few, c.loop-i-test.true)
-
-pub loop-i-smaller : goal.loop-i-smaller
-loop-i-smaller c = omega (arith, c.loop-i-test.true)
-
-pub loop-i-preserved : goal.loop-i-preserved
-loop-i-preserved c =
+pub loop-page-preserved : goal.loop-page-preserved
+loop-page-preserved c =
     let args = c.args in
-    let loop = c.loop-i in
-    let lt = c.loop-i-test.true in
-    let page = c.wide-page in
-    let low : page.result < args.p.pages = omega (arith, c.requires.rises.low loop.i lt, page.ensures) in
+    let loop = c.loop-page in
+    let at = (goal.at.loop-page-preserved c).In-loop-page in
+    let l = low at in
     let cleared = c.unmark_page.ensures in
     let set = c.set_mark in (
-      omega (arith, lt),
-      cleared.cells-length ∙ loop.invariant.1,
-      set.auto.tables ∙ loop.invariant.2,
-      through-turn _ _ _ _ _ loop.i page.result c.requires.rises lt page.ensures loop.invariant.3 (λ u. unmark-turn (omega (arith, c.requires.room, low)) c.mark.ensures u cleared set.ensures) (unmark-skips _ args.n args.list.now _ _ _ _ (omega (arith, c.requires.room)) c.requires.by_index),
+      cleared.cells-length ∙ loop.invariant.0,
+      set.auto.tables ∙ loop.invariant.1,
+      through-turn _ _ _ _ _ loop.page-index (page at) c.requires.rises (omega arith) refl loop.invariant.2 (λ u. unmark-turn (omega (arith, c.requires.room, l)) c.mark.ensures u cleared set.ensures) (unmark-skips _ (length args.list.now) args.list.now _ _ _ _ (omega (arith, c.requires.room)) c.requires.by_index),
     )
 
 pub shape_of-cells : goal.shape_of-cells
-shape_of-cells c = c.loop-i.invariant.1
+shape_of-cells c = c.loop-page.invariant.0
 
 pub shape_of-tables : goal.shape_of-tables
-shape_of-tables c = c.loop-i.invariant.2
+shape_of-tables c = c.loop-page.invariant.1
 
 pub returns : goal.returns
-returns c = through-end _ _ _ _ c.loop-i.i c.requires.rises c.loop-i.invariant.0 (omega (arith, c.loop-i-test.false)) c.loop-i.invariant.3
+returns c = through-end _ _ _ _ c.loop-page.page-index c.requires.rises (omega arith) (omega arith) c.loop-page.invariant.2
