@@ -23,7 +23,7 @@ fn other_cells(p: Sizes, tables: &[u32], page: usize) -> usize
     ensures { result ≡ other_cells p tables.now page }
 {
     if 1 < layout::tables::owner(p, tables, page) {
-        return layout::wide(layout::tables::used(p, tables, page));
+        return layout::tables::used(p, tables, page) as usize;
     }
     0
 }
@@ -36,10 +36,8 @@ fn push_page(p: Sizes, cells: &mut [u32], tables: &mut [u32], page: usize, top: 
 {
     let n = other_cells(p, tables, page);
     let mut t = top;
-    let mut place: usize = 0;
-    while place < n {
+    for place in 0..n {
         t = mark::push::scan(p, cells, tables, 1, layout::cells::cell_on(page, place), t);
-        place += 1;
     }
     t
 }
@@ -50,12 +48,9 @@ fn push_others(p: Sizes, cells: &mut [u32], tables: &mut [u32], top: u32) -> u32
     requires by_index { (page : ℕ) → page < p.pages → used_of p tables.old page ≤ page_cells }
     ensures { Pushing p 1 (other_held p cells.old tables.old) cells.old tables.old top cells.new tables.new result (cells_words p) }
 {
-    let pages = p.pages;
     let mut t = top;
-    let mut page: usize = 0;
-    while page < pages {
+    for page in 0..p.pages {
         t = push_page(p, cells, tables, page, t);
-        page += 1;
     }
     t
 }

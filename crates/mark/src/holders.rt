@@ -57,12 +57,8 @@ pub fn slot_for(
     ensures { result ≡ slot_held p cells.now remember.now tables.now r g i }
 {
     let at = layout::remember::slot(p.entries, remember, i) as usize;
-    if joins::join(
-        p,
-        r,
-        layout::tables::owner(p, tables, layout::cells::page_at(at)),
-    ) != g
-    {
+    let home = layout::tables::owner(p, tables, layout::cells::page_at(at));
+    if joins::join(p, r, home) != g {
         return 0;
     }
     cells[at]

@@ -6,36 +6,29 @@ use Rattle.keep.specs.Others.{other_held, page-asks, pages-read}
 use Rattle.keep.proofs.push_others.Goals as goal
 
 pub loop-page-init : goal.loop-page-init
-loop-page-init c = (omega arith, refl, refl, none)
+loop-page-init c = (refl, refl, none)
 
 pub push_page-t-requires : goal.push_page-t-requires
 push_page-t-requires c =
     let loop = c.loop-page in
-    let loop-test = c.loop-page-test in
-    let both = page-asks loop.page c.requires.shaped loop.invariant.3 loop-test.true (c.requires.by_index loop.page loop-test.true) in
+    let both = page-asks loop.page c.requires.shaped loop.invariant.2 (omega arith) (c.requires.by_index loop.page (omega arith)) in
     record { shaped = both.0; page_lt_pages = both.1 }
-
-pub overflow_add-page : goal.overflow_add-page
-overflow_add-page c = omega (arith, c.requires.shaped.room.few, c.loop-page-test.true)
-
-pub loop-page-smaller : goal.loop-page-smaller
-loop-page-smaller c = omega (arith, c.loop-page-test.true)
 
 pub loop-page-preserved : goal.loop-page-preserved
 loop-page-preserved c =
     let loop = c.loop-page in
-    let h = pages-read loop.page c.requires.shaped loop.invariant.3 c.push_page-t.ensures in
-    let k = pushing-kept c.requires.shaped h in (omega (arith, c.loop-page-test.true), k.cells-length, k.tables-length, h)
+    let h = pages-read loop.page c.requires.shaped loop.invariant.2 c.push_page-t.ensures in
+    let k = pushing-kept c.requires.shaped h in (k.cells-length, k.tables-length, h)
 
 pub shape_of-cells : goal.shape_of-cells
-shape_of-cells c = c.loop-page.invariant.1
+shape_of-cells c = c.loop-page.invariant.0
 
 pub shape_of-tables : goal.shape_of-tables
-shape_of-tables c = c.loop-page.invariant.2
+shape_of-tables c = c.loop-page.invariant.1
 
 pub returns : goal.returns
 returns c =
     let loop = c.loop-page in
     let args = c.args in
-    let e : head_at (first_on loop.page) ≡ cells_words args.p = omega (arith, loop.invariant.0, c.loop-page-test.false) in
-    subst (Pushing args.p 1 (other_held args.p args.cells.now args.tables.now) args.cells.now args.tables.now args.top loop.cells loop.tables loop.t) e loop.invariant.3
+    let e : head_at (first_on loop.page) ≡ cells_words args.p = omega arith in
+    subst (Pushing args.p 1 (other_held args.p args.cells.now args.tables.now) args.cells.now args.tables.now args.top loop.cells loop.tables loop.t) e loop.invariant.2

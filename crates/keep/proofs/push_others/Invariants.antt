@@ -1,5 +1,5 @@
 -- What the slots of the pages before this one hold is pushed.
-use Rattle.std.proofs.Common.{◌≡◌, ◌≤◌, ◌-◌, length}
+use Rattle.std.proofs.Common.{◌≡◌, length}
 use Rattle.layout.specs.Cells.{head_at, first_on}
 use Rattle.mark.specs.Pushes.{Pushing}
 use Rattle.keep.specs.Others.{other_held}
@@ -7,8 +7,5 @@ use Rattle.keep.proofs.push_others.Given as goal
 
 abbrev pub invariant-loop-page : goal.invariant-loop-page
 invariant-loop-page l =
-    (l.page ≤ l.p.pages) × (length l.cells ≡ length l.initial.cells) × (length l.tables ≡ length l.initial.tables)
+    (length l.cells ≡ length l.initial.cells) × (length l.tables ≡ length l.initial.tables)
     × Pushing l.p 1 (other_held l.p l.initial.cells l.initial.tables) l.initial.cells l.initial.tables l.top l.cells l.tables l.t (head_at (first_on l.page))
-
-abbrev pub decreases-loop-page : goal.decreases-loop-page
-decreases-loop-page l = l.p.pages - l.page

@@ -6,9 +6,9 @@ use Rattle.mark.proofs.holders.slot_for.Goals as goal
 pub returns-then-join-g : goal.returns-then-join-g
 returns-then-join-g c =
     let args = c.args in
-    slot-none args.p args.cells.now args.remember.now args.tables.now args.r args.g args.i c.requires.i_lt_entries.2 (λ e. c.if-join-g.true (slot-call args.p args.cells.now args.remember.now args.tables.now args.r args.g args.i _ _ _ _ _ c.slot-at.ensures refl c.page_at.ensures c.owner.ensures c.join.ensures ∙ e))
+    slot-none args.p args.cells.now args.remember.now args.tables.now args.r args.g args.i c.requires.i_lt_entries.2 (λ e. c.if-join-g.true (slot-call args.p args.cells.now args.remember.now args.tables.now args.r args.g args.i _ _ _ _ _ c.slot-at.ensures refl c.page_at.ensures c.owner-home.ensures c.join.ensures ∙ e))
 
 pub returns : goal.returns
 returns c =
     let args = c.args in
-    ap (λ (z : ℕ). get_or args.cells.now z 0) c.slot-at.ensures ∙ slot-some args.p args.cells.now args.remember.now args.tables.now args.r args.g args.i c.requires.i_lt_entries.2 (sym (slot-call args.p args.cells.now args.remember.now args.tables.now args.r args.g args.i _ _ _ _ _ c.slot-at.ensures refl c.page_at.ensures c.owner.ensures c.join.ensures) ∙ c.if-join-g.false)
+    ap (λ (z : ℕ). get_or args.cells.now z 0) c.slot-at.ensures ∙ slot-some args.p args.cells.now args.remember.now args.tables.now args.r args.g args.i c.requires.i_lt_entries.2 (sym (slot-call args.p args.cells.now args.remember.now args.tables.now args.r args.g args.i _ _ _ _ _ c.slot-at.ensures refl c.page_at.ensures c.owner-home.ensures c.join.ensures) ∙ c.if-join-g.false)
