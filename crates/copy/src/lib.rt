@@ -36,12 +36,11 @@ pub fn copy_cell(cells: &mut [u32], old: usize, new: usize)
     requires cell_in_2 { CellIn new (length cells.old) }
     ensures { Copied old new cells.old cells.new }
 {
-    let mut i: usize = 0;
-    while i < layout::cells::WORDS {
-        let x = layout::cells::word(cells, old, i);
-        layout::cells::set_word(cells, new, i, x);
-        i += 1;
-    }
+    let from = layout::cells::WORDS * old;
+    cells.copy_within(
+        from..from + layout::cells::WORDS,
+        layout::cells::WORDS * new,
+    );
     layout::cells::set_work(cells, new, 0);
     layout::cells::set_work(cells, old, layout::cells::ref_to(new));
 }
@@ -86,19 +85,16 @@ pub fn copy_page(
     ensures noted_2 { Noted p tables.new notes.new }
 {
     let waiting = layout::bits::lower_half(layout::tables::mark(p, tables, page));
-    let survivors = u32::count_ones(waiting);
     let mut next = at;
     let mut left = waiting;
-    let mut k: u32 = 0;
-    while k < survivors {
-        let i = u32::trailing_zeros(left);
-        let cell = layout::cells::cell_on(page, layout::wide(i));
+    for _ in 0..waiting.count_ones() {
+        let i = left.trailing_zeros();
+        let cell = layout::cells::cell_on(page, i as usize);
         if layout::cells::work(cells, cell) == region {
             next = next_page(p, tables, notes, region, next);
             move_cell(p, cells, tables, region, next, cell);
         }
         left = layout::bits::without_bit(left, i);
-        k += 1;
     }
     next
 }
@@ -110,21 +106,18 @@ pub fn copy_pass(
     tables: &mut [u32],
     notes: &mut [u32],
     list: &[u32],
-    n: usize,
     region: u32,
 )
     requires passing { Passing p region cells.old tables.old }
-    requires rises { Rises p.pages n list.now }
-    requires by_index { (page : ℕ) → page < p.pages → Off list.now n page → mark_of p tables.old page ≡ 0 }
+    requires rises { Rises p.pages (length list.now) list.now }
+    requires by_index { (page : ℕ) → page < p.pages → Off list.now (length list.now) page → mark_of p tables.old page ≡ 0 }
     requires noted { Noted p tables.old notes.old }
     ensures pass { Pass p region (λ c. page_of c < p.pages) (order region 0) (order region (first_on p.pages)) cells.old tables.old cells.new tables.new }
     ensures noted_2 { Noted p tables.new notes.new }
 {
     let mut at = pages::page_for(p, tables, notes, region);
-    let mut i: usize = 0;
-    while i < n {
-        at = copy_page(p, cells, tables, notes, region, layout::wide(list[i]), at);
-        i += 1;
+    for page in list {
+        at = copy_page(p, cells, tables, notes, region, *page as usize, at);
     }
 }
 
@@ -135,26 +128,23 @@ pub fn copy_survivors(
     tables: &mut [u32],
     notes: &mut [u32],
     list: &[u32],
-    n: usize,
     come: &[u32],
     thread: usize,
     levels: usize,
 )
     requires plan { Plan p levels (region_at p thread) cells.old tables.old }
     requires thread_lt_threads { (thread < p.threads) × (levels ≤ p.depth) }
-    requires rises { Rises p.pages n list.now }
-    requires by_index { (page : ℕ) → page < p.pages → Off list.now n page → mark_of p tables.old page ≡ 0 }
+    requires rises { Rises p.pages (length list.now) list.now }
+    requires by_index { (page : ℕ) → page < p.pages → Off list.now (length list.now) page → mark_of p tables.old page ≡ 0 }
     requires by_index_2 { (g : ℕ) → 1 ≤ g → g ≤ regions p → get_or come.now g 0 ≡ 0 → arriving p cells.old tables.old g ≡ 0 }
     requires noted { Noted p tables.old notes.old × (regions p < length come.now) }
     ensures copy { Copy p levels (region_at p thread) levels cells.old tables.old cells.new tables.new }
     ensures noted_2 { Noted p tables.new notes.new }
 {
-    let mut level: usize = 0;
-    while level < levels {
+    for level in 0..levels {
         let region = layout::regions::region_at(p, thread, level);
-        if come[layout::wide(region)] != 0 {
-            copy_pass(p, cells, tables, notes, list, n, region);
+        if come[region as usize] != 0 {
+            copy_pass(p, cells, tables, notes, list, region);
         }
-        level += 1;
     }
 }

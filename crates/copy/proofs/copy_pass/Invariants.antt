@@ -1,5 +1,5 @@
 -- The survivors on the listed pages so far, and so on all pages below the next, that go to the region have moved.
-use Rattle.std.proofs.Common.{length, ℕ, ◌≤◌, ◌-◌, List, ◌≡◌}
+use Rattle.std.proofs.Common.{length, ℕ, List}
 use Rattle.lists.specs.Part.{Through}
 use Rattle.rules.specs.declared.Sizes.{Sizes}
 use Rattle.pages.specs.Noted.{Noted}
@@ -10,10 +10,6 @@ use Rattle.copy.proofs.copy_pass.Given as goal
 abbrev pub Below : Sizes → ℕ → List ℕ → List ℕ → ℕ → List ℕ → List ℕ → ℕ → Type 0
 Below p g W T page W' T' q = PassMoves p g q page W T W' T'
 
-abbrev pub invariant-loop-i : goal.invariant-loop-i
-invariant-loop-i l =
-    (l.i ≤ l.n) × (length l.cells ≡ length l.initial.cells) × (length l.tables ≡ length l.initial.tables) × (length l.notes ≡ length l.initial.notes) × Through l.p.pages l.n l.list l.i (Below l.p l.region l.initial.cells l.initial.tables l.at l.cells l.tables) × Noted l.p l.tables l.notes
-
-abbrev pub decreases-loop-i : goal.decreases-loop-i
-decreases-loop-i l =
-    l.n - l.i
+abbrev pub invariant-loop-page : goal.invariant-loop-page
+invariant-loop-page l =
+    Through l.p.pages (length l.list) l.list l.page-index (Below l.p l.region l.initial.cells l.initial.tables l.at l.cells l.tables) × Noted l.p l.tables l.notes

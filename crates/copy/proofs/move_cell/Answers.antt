@@ -1,5 +1,5 @@
 -- The cell is taken and copied; the bit of the old cell is set in the lower half and not in the upper, so it can be moved there.
-use Rattle.std.proofs.Common.{arith, rules, get_or, set, ℕ, ◌+◌, ◌-◌, ◌^◌, List, ◌≡◌, ap, ap₂, ◌∙◌}
+use Rattle.std.proofs.Common.{arith, get_or, set, ℕ, ◌+◌, ◌-◌, ◌^◌, List, ◌≡◌, ap, ap₂, ◌∙◌}
 use Rattle.lists.specs.Bits.{bit_at}
 use Rattle.rules.specs.declared.Sizes.{Sizes}
 use Rattle.layout.specs.Places.{mark_at, mark_of, used_of, made_of}
@@ -17,24 +17,22 @@ use Rattle.copy.proofs.move_cell.Goals as goal
 took : {p : Sizes} {g q : ℕ} {W T T' : List ℕ} {c d : ℕ} → Movable p g q W T c → d ≡ cell_on q (used_of p T q) → T' ≡ taken p T q g → Took p T g d (made_of p T) T'
 took m e f = taken-took m.regular m.next.low (omega (arith, m.room, m.low)) (m.real, m.low) m.next.found e f
 
-pub take_cell-new-requires : goal.take_cell-new-requires
-take_cell-new-requires c =
-    let m = c.requires in record {
-      room = m.room;
-      page_lt_pages = (m.next.low, m.next.part);
-      le_region = (m.real, m.low, count_fits m.regular _ m.real m.low m.room.few);
-    }
+pub take_cell-new-requires-clause-le_region : goal.take_cell-new-requires-clause-le_region
+take_cell-new-requires-clause-le_region c =
+    let m = c.requires in
+    (m.real, m.low, count_fits m.regular _ m.real m.low m.room.few)
 
-pub copy_cell-requires : goal.copy_cell-requires
-copy_cell-requires c =
-    let p = c.args.p in
-    let t = movable-taken c.requires (took c.requires c.take_cell-new.ensures.0 c.take_cell-new.ensures.1) in record { nonzero = t.apart; cell_in = cell_in p t.few t.long t.old; cell_in_2 = cell_in p t.few t.long t.cell }
+pub copy_cell-requires-clause-nonzero : goal.copy_cell-requires-clause-nonzero
+copy_cell-requires-clause-nonzero c =
+    (movable-taken c.requires (took c.requires c.take_cell-new.ensures.0 c.take_cell-new.ensures.1)).apart
 
-pub mark-requires : goal.mark-requires
-mark-requires c = record {
-  room = search rules;
-  page_lt_pages = omega (arith, c.page_of-home.ensures, begins-page _ _ _ _ c.requires.used);
-}
+pub copy_cell-requires-clause-cell_in : goal.copy_cell-requires-clause-cell_in
+copy_cell-requires-clause-cell_in c =
+    let t = movable-taken c.requires (took c.requires c.take_cell-new.ensures.0 c.take_cell-new.ensures.1) in
+    cell_in c.args.p t.few t.long t.old
+
+pub mark-requires-clause-page_lt_pages : goal.mark-requires-clause-page_lt_pages
+mark-requires-clause-page_lt_pages c = omega (arith, c.page_of-home.ensures, begins-page _ _ _ _ c.requires.used)
 
 pub without_bit-others-requires : goal.without_bit-others-requires
 without_bit-others-requires c =
@@ -53,11 +51,8 @@ with_bit-marks-requires c =
     let f = c.without_bit-others.ensures ∙ ap₂ (λ (x y : ℕ). x - 2 ^ y) e c.place_of-place.ensures in
     (omega (arith, c.place_of-place.ensures), ap₂ (λ (x y : ℕ). bit_at x (page_cells + y)) f c.place_of-place.ensures ∙ clear-fresh (get_or X (marks_at a.p a.cell) 0) (place_of a.cell) t.on t.fresh)
 
-pub set_mark-requires : goal.set_mark-requires
-set_mark-requires c = record {
-  room = search rules;
-  page_lt_pages = omega (arith, c.page_of-home.ensures, begins-page _ _ _ _ c.requires.used);
-}
+pub set_mark-requires-clause-page_lt_pages : goal.set_mark-requires-clause-page_lt_pages
+set_mark-requires-clause-page_lt_pages c = omega (arith, c.page_of-home.ensures, begins-page _ _ _ _ c.requires.used)
 
 pub returns : goal.returns
 returns c =
