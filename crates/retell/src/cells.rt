@@ -17,12 +17,10 @@ fn rewrite_cell(cells: &mut [u32], cell: usize)
     ensures { Rewritten (Field cell (refs_of cells.old cell)) cells.old cells.new }
 {
     let n = layout::cells::field_count(Kind::Reference, layout::cells::head(cells, cell));
-    let mut f: usize = 0;
-    while f < n {
+    for f in 0..n {
         let x = layout::cells::field(cells, cell, f);
         let y = forward_ref(cells, x);
         layout::cells::set_field(cells, cell, f, y);
-        f += 1;
     }
 }
 
@@ -32,11 +30,9 @@ fn rewrite_page(p: Sizes, cells: &mut [u32], tables: &[u32], page: usize)
     requires page_lt_pages { page < p.pages }
     ensures { Rewritten (SlotFrom p (head_at (cell_on page 0)) (head_at (cell_on (page + 1) 0)) cells.old tables.now) cells.old cells.new }
 {
-    let used = layout::wide(layout::tables::used(p, tables, page));
-    let mut place: usize = 0;
-    while place < used {
+    let used = layout::tables::used(p, tables, page) as usize;
+    for place in 0..used {
         rewrite_cell(cells, layout::cells::cell_on(page, place));
-        place += 1;
     }
 }
 
@@ -45,10 +41,7 @@ pub fn rewrite_cells(p: Sizes, cells: &mut [u32], tables: &[u32])
     requires { Readable p 0 (cells_words p) cells.old tables.now }
     ensures { Rewritten (Slot p cells.old tables.now) cells.old cells.new }
 {
-    let pages = p.pages;
-    let mut page: usize = 0;
-    while page < pages {
+    for page in 0..p.pages {
         rewrite_page(p, cells, tables, page);
-        page += 1;
     }
 }

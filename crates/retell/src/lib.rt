@@ -20,6 +20,8 @@ use remember::entries::{close_entries, put_entry};
 use rules::Sizes;
 
 // The crossing slots of the object at a cell come after the first j entries; how many there are then.
+// Three functions go over the references of a cell: this one writes the table, rewrite_cell the cells, settle_cell of the crate `settle` both, and
+// a reference as it reads then. One function for all would take the kind of pass as an argument and test it at each field, which is no plainer.
 fn tell_cell(
     p: Sizes,
     cells: &[u32],
@@ -32,16 +34,14 @@ fn tell_cell(
     requires slots_telling { SlotsTelling p (head_at cell) (head_at (cell + 1)) cells.now remember.old tables.now j }
     ensures { SlotsTold p (head_at cell) (head_at (cell + 1)) cells.now remember.old tables.now j remember.new result }
 {
-    let entries = p.entries;
     let n = layout::cells::field_count(Kind::Reference, layout::cells::head(cells, cell));
     let from = layout::tables::owner(p, tables, layout::cells::page_of(cell));
     let mut i = j;
-    let mut f: usize = 0;
-    while f < n {
+    for f in 0..n {
         let to = cross(p, tables, from, layout::cells::field(cells, cell, f));
         if to != 0 {
             put_entry(
-                entries,
+                p.entries,
                 remember,
                 i,
                 layout::cells::field_at(cell, f) as u32,
@@ -49,7 +49,6 @@ fn tell_cell(
             );
             i += 1;
         }
-        f += 1;
     }
     i
 }
@@ -67,10 +66,9 @@ fn tell_page(
     requires slots_telling { SlotsTelling p (head_at (cell_on page 0)) (head_at (cell_on (page + 1) 0)) cells.now remember.old tables.now j }
     ensures { SlotsTold p (head_at (cell_on page 0)) (head_at (cell_on (page + 1) 0)) cells.now remember.old tables.now j remember.new result }
 {
-    let used = layout::wide(layout::tables::used(p, tables, page));
+    let used = layout::tables::used(p, tables, page) as usize;
     let mut i = j;
-    let mut place: usize = 0;
-    while place < used {
+    for place in 0..used {
         i = tell_cell(
             p,
             cells,
@@ -79,7 +77,6 @@ fn tell_page(
             layout::cells::cell_on(page, place),
             i,
         );
-        place += 1;
     }
     i
 }
@@ -89,12 +86,9 @@ fn tell_pages(p: Sizes, cells: &[u32], remember: &mut [u32], tables: &[u32]) -> 
     requires { SlotsTelling p 0 (cells_words p) cells.now remember.old tables.now 0 }
     ensures { SlotsTold p 0 (cells_words p) cells.now remember.old tables.now 0 remember.new result }
 {
-    let pages = p.pages;
-    let mut i: usize = 0;
-    let mut page: usize = 0;
-    while page < pages {
+    let mut i = 0;
+    for page in 0..p.pages {
         i = tell_page(p, cells, remember, tables, page, i);
-        page += 1;
     }
     i
 }
@@ -108,7 +102,7 @@ pub fn retell(p: Sizes, cells: &[u32], remember: &mut [u32], tables: &[u32])
     ensures exact { Exact (cross_to p cells.now tables.now) (cells_words p) p.entries remember.new }
     ensures edited { Edited p.entries remember.old remember.new }
 {
-    let used = layout::wide(layout::remember::used(remember));
+    let used = layout::remember::used(remember) as usize;
     let all = tell_pages(p, cells, remember, tables);
     close_entries(p.entries, remember, all, used);
 }

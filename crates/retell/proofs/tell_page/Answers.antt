@@ -1,50 +1,42 @@
-use Rattle.std.proofs.Common.{arith, refl, ◌∙◌}
+use Rattle.std.proofs.Common.{arith}
 use Rattle.remember.specs.Crossing.{cross_to}
 use Rattle.retell.specs.SlotStretches.{PageReadable, used-most, begins-here}
 use Rattle.retell.specs.Retelling.{told-start}
 use Rattle.retell.specs.RetellingSlots.{place-telling, place-told, page-told}
 use Rattle.retell.proofs.tell_page.Goals as goal
-use Rattle.retell.proofs.tell_page.Goals.{After-wide-used}
+use Rattle.retell.proofs.tell_page.Goals.{After-used-used}
 
 -- the page, by the number of cells in use that the code read
-here : (c : goal.After-wide-used) → (let a = c.args in PageReadable a.p a.page c.wide-used.result a.cells.now a.tables.now)
+here : (c : goal.After-used-used) → (let a = c.args in PageReadable a.p a.page c.used-used.result a.cells.now a.tables.now)
 here c =
-    record { readable = c.requires.slots_telling.readable; low = c.requires.page_lt_pages; cells = c.wide-used.ensures ∙ c.used.ensures }
+    record { readable = c.requires.slots_telling.readable; low = c.requires.page_lt_pages; cells = c.used-used.ensures }
 
-pub used-requires : goal.used-requires
-used-requires c = record { room = c.requires.slots_telling.readable.tables-long; page_lt_pages = c.requires.page_lt_pages }
+pub used-used-requires : goal.used-used-requires
+used-used-requires c = record { room = c.requires.slots_telling.readable.tables-long; page_lt_pages = c.requires.page_lt_pages }
 
 pub loop-place-init : goal.loop-place-init
 loop-place-init c =
     let a = c.args in
-    (omega arith, used-most (here (goal.at.loop-place-init c).After-wide-used), refl, told-start (cross_to a.p a.cells.now a.tables.now) a.p.entries _ _ _ c.requires.slots_telling.telling.low)
+    told-start (cross_to a.p a.cells.now a.tables.now) a.p.entries _ _ _ c.requires.slots_telling.telling.low
 
 pub cell_on-requires : goal.cell_on-requires
-cell_on-requires c = (omega (arith, c.requires.slots_telling.readable.tables-long.few, c.requires.page_lt_pages), omega (arith, c.loop-place.invariant.1, c.loop-place-test.true))
+cell_on-requires c = (omega (arith, c.requires.slots_telling.readable.tables-long.few, c.requires.page_lt_pages), omega (arith, used-most (here (goal.at.cell_on-requires c).After-used-used), c.loop-place-test.true))
 
 pub tell_cell-i-requires : goal.tell_cell-i-requires
 tell_cell-i-requires c =
-    let r = here (goal.at.tell_cell-i-requires c).After-wide-used in
+    let r = here (goal.at.tell_cell-i-requires c).After-used-used in
     let k = c.cell_on in record {
       begins = begins-here r k.result c.loop-place.place (omega (arith, c.loop-place-test.true)) k.ensures;
-      slots_telling = place-telling r c.requires.slots_telling c.loop-place.invariant.3 k.result (omega (arith, c.loop-place-test.true)) k.ensures;
+      slots_telling = place-telling r c.requires.slots_telling c.loop-place.invariant k.result (omega (arith, c.loop-place-test.true)) k.ensures;
     }
-
-pub overflow_add-place : goal.overflow_add-place
-overflow_add-place c = omega (arith, c.loop-place.invariant.1, c.loop-place-test.true)
-
-pub loop-place-smaller : goal.loop-place-smaller
-loop-place-smaller c = omega (arith, c.loop-place-test.true)
 
 pub loop-place-preserved : goal.loop-place-preserved
 loop-place-preserved c =
-    let r = here (goal.at.loop-place-preserved c).After-wide-used in
+    let r = here (goal.at.loop-place-preserved c).After-used-used in
     let k = c.cell_on in
-    let h = place-told r c.requires.slots_telling c.loop-place.invariant.3 k.result (omega (arith, c.loop-place-test.true)) k.ensures c.tell_cell-i.ensures in
-    (omega (arith, c.loop-place-test.true), c.loop-place.invariant.1, h.added.size, h)
-
-pub shape_of-remember : goal.shape_of-remember
-shape_of-remember c = c.loop-place.invariant.2
+    place-told r c.requires.slots_telling c.loop-place.invariant k.result (omega (arith, c.loop-place-test.true)) k.ensures c.tell_cell-i.ensures
 
 pub returns : goal.returns
-returns c = page-told (here (goal.at.returns c).After-wide-used) c.requires.slots_telling c.loop-place.invariant.3 (omega (arith, c.loop-place.invariant.0, c.loop-place-test.false)) (omega (arith, c.loop-place.invariant.0, c.loop-place.invariant.1))
+returns c =
+    let r = here (goal.at.returns c).After-used-used in
+    page-told r c.requires.slots_telling c.loop-place.invariant (omega arith) (omega (arith, used-most r))

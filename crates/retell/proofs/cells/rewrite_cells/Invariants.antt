@@ -1,5 +1,4 @@
 -- The slots of the pages before this one are rewritten, and nothing else is changed.
-use Rattle.std.proofs.Common.{length, ◌≤◌, ◌-◌, ◌≡◌}
 use Rattle.layout.specs.Cells.{head_at, cell_on}
 use Rattle.settle.specs.Rewrite.{Rewritten}
 use Rattle.retell.specs.SlotStretches.{SlotFrom}
@@ -7,8 +6,4 @@ use Rattle.retell.proofs.cells.rewrite_cells.Given as goal
 
 abbrev pub invariant-loop-page : goal.invariant-loop-page
 invariant-loop-page l =
-    (l.page ≤ l.pages) × (length l.cells ≡ length l.initial.cells) × Rewritten (SlotFrom l.p 0 (head_at (cell_on l.page 0)) l.initial.cells l.tables) l.initial.cells l.cells
-
-abbrev pub decreases-loop-page : goal.decreases-loop-page
-decreases-loop-page l =
-    l.pages - l.page
+    Rewritten (SlotFrom l.p 0 (head_at (cell_on l.page 0)) l.initial.cells l.tables) l.initial.cells l.cells
