@@ -1,21 +1,12 @@
 -- What `filled` does at one byte, case by case, as the code tells the cases apart; and lines one after the other.
-use Rattle.std.specs.Prelude.{ℕ, ◌+◌, ◌*◌, ◌<◌, ◌≤◌, Bool, ◌≡◌, length, get_or, drop, ltb}
+use Rattle.std.specs.Prelude.{ℕ, ◌+◌, ◌*◌, ◌<◌, ◌≤◌, length, get_or}
 use mathlib.Core.List.{List, [], ◌∷◌}
-use Rattle.std.proofs.Math.Bool.{cond}
-use Rattle.std.proofs.Common.{sym, ◌∙◌, arith, add-zero, add-one, length-set, length-append, drop_of_length-le, drop-cons, lt-ltb, le-ltb}
-use Rattle.std.proofs.Math.Path.{ap, ap₂}
+use Rattle.std.proofs.Common.{sym, arith, add-zero, add-one, length-append}
+use Rattle.std.proofs.Math.Path.{ap}
 use Rattle.std.proofs.Math.Seq.{paste-zero}
-use Rattle.script.specs.declared.Line.{Line}
-use Rattle.script.specs.declared.Line.TheVariants.{Numbers, Malformed}
-use Rattle.script.specs.declared.Reader.{Reader}
-use Rattle.script.specs.declared.Step.{Step}
-use Rattle.script.specs.declared.Step.TheVariants.{More, Ended}
-use Rattle.script.specs.declared.Filled.{Filled}
-use Rattle.script.specs.declared.Filled.TheVariants.{Done, Full, Broken}
-use Rattle.script.specs.Reading.{started, step_of}
 use Rattle.script.specs.Writing.{row, Put}
 use Rattle.script.proofs.WritingLaws.{word-length, put-put, put-text}
-use Rattle.script.specs.Blocks.{words_put, filled, Took, stacked, answer_line}
+use Rattle.script.specs.Blocks.{stacked, answer_line}
 
 pub two-length : (a b : ℕ) → a < 4_294_967_296 → b < 4_294_967_296 → length (row (a ∷ b ∷ [])) ≤ 22
 unfolding row

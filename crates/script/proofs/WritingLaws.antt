@@ -1,12 +1,12 @@
 -- Facts of what is written: how long it is, and one text put after another.
-use Rattle.std.specs.Prelude.{ℕ, zero, suc, ◌+◌, ◌-◌, ◌/◌, ◌%◌, ◌^◌, ◌<◌, ◌≤◌, Bool, ◌≡◌, refl, length, take, drop, set, get_or, ltb}
-use mathlib.Core.List.{List, [], ◌∷◌, ◌++◌, append_assoc}
+use Rattle.std.specs.Prelude.{ℕ, zero, suc, ◌+◌, ◌*◌, ◌-◌, ◌/◌, ◌%◌, ◌^◌, ◌<◌, ◌≤◌, Bool, ◌≡◌, refl, length, take, drop, set, get_or, ltb}
+use mathlib.Core.List.{List, [], ◌∷◌, ◌++◌, append_assoc, append-nil}
 use Rattle.std.proofs.Math.Bool.{true, false}
-use Rattle.std.proofs.Common.{sym, ap₂, ◌∙◌, subst, arith, pow-suc, add-one, take_at, drop_at, drop-drop, length-take-le, lt-ltb, le-ltb, ltb-false}
+use Rattle.std.proofs.Common.{sym, ap₂, ◌∙◌, subst, arith, pow-suc, add-one, add-zero, take_at, drop_at, drop-drop, length-take-le, lt-ltb, le-ltb, ltb-false}
 use Rattle.std.proofs.Math.Path.{ap}
 use Rattle.std.proofs.Math.Decide.{dec_le}
 use Rattle.std.proofs.Math.ListN.{length-append}
-use Rattle.std.proofs.Math.Seq.{take-length, paste, paste-suc, append_snoc}
+use Rattle.std.proofs.Math.Seq.{take-length, take-suc, paste-zero, append_snoc}
 use Rattle.std.proofs.lemmas.List.{set_split}
 use Rattle.io.specs.Digits.{last_digits, hex_digit_ascii, IsDigitCount}
 use Rattle.script.specs.Writing.{spelt, decimal, row, line_line, written, Put}
@@ -77,23 +77,6 @@ decimal-length n h = spelt-length (suc n) 19 n (omega arith)
 
 -- ---- one text after another
 
-module _ (bytes : List ℕ) (at : ℕ) (text : List ℕ) where
-  -- a turn of the copying loop, and its end
-  pub copy-byte : (now : List ℕ) (i : ℕ) → now ≡ paste bytes at text i → at + length text ≤ length bytes → i < length text
-      → set now (at + i) (get_or text i 0) ≡ paste bytes at text (i + 1)
-  copy-byte now i e room h =
-      ap (λ (l : List ℕ). set l (at + i) (get_or text i 0)) e
-      ∙ paste-suc bytes at text i 0 (omega arith) h
-      ∙ ap (paste bytes at text) (sym (add-one i))
-
-  pub copied : (now : List ℕ) (i : ℕ) → now ≡ paste bytes at text i → i ≤ length text → length text ≤ i → Put bytes at text now (at + i)
-  copied now i e l g =
-      let f : i ≡ length text = omega arith in
-      record {
-        bytes-are = e ∙ ap (paste bytes at text) f ∙ ap (λ (t : List ℕ). take at bytes ++ t ++ drop (at + length text) bytes) (take-length text);
-        end_is = omega arith;
-      }
-
 -- one byte
 pub put_byte : (bytes : List ℕ) (at b : ℕ) → at < length bytes → Put bytes at (b ∷ []) (set bytes at b) (at + 1)
 put_byte bytes at b h =
@@ -149,32 +132,42 @@ put-put {bytes} {a} {b} {at = at} room p q =
 pub put-end : {bytes after : List ℕ} {at end : ℕ} (n b : ℕ) → n < 4_294_967_296 → Put bytes at (decimal n ++ (b ∷ [])) after end → end ≤ at + 11
 put-end n b h p = omega (arith, p.end_is, length-append (decimal n) (b ∷ []), word-length n h)
 
+-- numbers with a space behind each
+unfoldable pub spaced_row : List ℕ → List ℕ
+spaced_row [] = []
+spaced_row (n ∷ ns) = (decimal n ++ (32 ∷ [])) ++ spaced_row ns
+
+spaced-last : (ns : List ℕ) (n : ℕ) → spaced_row (ns ++ (n ∷ [])) ≡ spaced_row ns ++ (decimal n ++ (32 ∷ []))
+unfolding spaced_row
+spaced-last [] n = append-nil (decimal n ++ (32 ∷ []))
+spaced-last (m ∷ ms) n = ap (λ (l : List ℕ). (decimal m ++ (32 ∷ [])) ++ l) (spaced-last ms n) ∙ sym (append_assoc (decimal m ++ (32 ∷ [])) (spaced_row ms) (decimal n ++ (32 ∷ [])))
+
+row-last : (ns : List ℕ) (n : ℕ) → row (ns ++ (n ∷ [])) ≡ spaced_row ns ++ (decimal n ++ (10 ∷ []))
+unfolding row spaced_row
+row-last [] n = refl
+row-last (m ∷ []) n = let e : ((decimal m ++ (32 ∷ [])) ++ []) ++ (decimal n ++ (10 ∷ [])) ≡ decimal m ++ (32 ∷ row (n ∷ [])) = simp append_assoc in sym e
+row-last (m ∷ k ∷ ks) n =
+    let e : ((decimal m ++ (32 ∷ [])) ++ spaced_row (k ∷ ks)) ++ (decimal n ++ (10 ∷ [])) ≡ decimal m ++ (32 ∷ (spaced_row (k ∷ ks) ++ (decimal n ++ (10 ∷ [])))) = simp append_assoc in
+    ap (λ (l : List ℕ). decimal m ++ (32 ∷ l)) (row-last (k ∷ ks) n) ∙ sym e
+
+-- one number more of a line, and the last one
+module _ {bytes now after : List ℕ} {at end stop : ℕ} (ns : List ℕ) (i : ℕ) (h : i < length ns) (fits : get_or ns i 0 < 4_294_967_296)
+    (low : end ≤ at + 11 * i) (room : at + 11 * length ns ≤ length bytes) (p : Put bytes at (spaced_row (take i ns)) now end) where
+  pub row-more : Put now end (decimal (get_or ns i 0) ++ (32 ∷ [])) after stop → Put bytes at (spaced_row (take (i + 1) ns)) after stop
+  row-more q =
+      put-text (sym (ap (λ (n : ℕ). spaced_row (take n ns)) (add-one i) ∙ ap spaced_row (take-suc ns i 0 h) ∙ spaced-last (take i ns) (get_or ns i 0)))
+      (put-put (omega (arith, p.end_is, length-append (decimal (get_or ns i 0)) (32 ∷ []), word-length (get_or ns i 0) fits)) p q)
+
+  pub row-end : i + 1 ≡ length ns → Put now end (decimal (get_or ns i 0) ++ (10 ∷ [])) after stop → Put bytes at (row ns) after stop
+  row-end e q =
+      put-text (sym (ap row (sym (take-length ns) ∙ ap (λ (n : ℕ). take n ns) (sym e ∙ add-one i) ∙ take-suc ns i 0 h) ∙ row-last (take i ns) (get_or ns i 0)))
+      (put-put (omega (arith, p.end_is, length-append (decimal (get_or ns i 0)) (10 ∷ []), word-length (get_or ns i 0) fits)) p q)
+
+pub put-start : (bytes : List ℕ) (at : ℕ) (ns : List ℕ) → Put bytes at (spaced_row (take 0 ns)) bytes at
+unfolding spaced_row
+put-start bytes at ns = record { bytes-are = paste-zero bytes at []; end_is = sym (add-zero at) }
+
 module _ {bytes after : List ℕ} {at : ℕ} where
-  pub put_two : {x : List ℕ} {i end : ℕ} (a b : ℕ) → a < 4_294_967_296 → b < 4_294_967_296 → at + 22 ≤ length bytes
-      → Put bytes at (decimal a ++ (32 ∷ [])) x i → Put x i (decimal b ++ (10 ∷ [])) after end → Put bytes at (row (a ∷ b ∷ [])) after end
-  unfolding row
-  put_two a b la lb room p q =
-      put-text (append_snoc (decimal a) 32 (decimal b ++ (10 ∷ [])))
-      (put-put (simp length-append (omega (arith, word-length a la, word-length b lb))) p q)
-
-  pub put_three : {x y : List ℕ} {i j end : ℕ} (a b c : ℕ) → a < 4_294_967_296 → b < 4_294_967_296 → c < 4_294_967_296 → at + 33 ≤ length bytes
-      → Put bytes at (decimal a ++ (32 ∷ [])) x i → Put x i (decimal b ++ (32 ∷ [])) y j → Put y j (decimal c ++ (10 ∷ [])) after end → Put bytes at (row (a ∷ b ∷ c ∷ [])) after end
-  unfolding row
-  put_three a b c la lb lc room p q r =
-      put-text (simp append_assoc)
-      (put-put (simp length-append (omega (arith, word-length a la, word-length b lb, word-length c lc)))
-      (put-put (simp length-append (omega (arith, word-length a la, word-length b lb))) p q) r)
-
-  pub put_four : {x y z : List ℕ} {i j k end : ℕ} (a b c d : ℕ) → a < 4_294_967_296 → b < 4_294_967_296 → c < 4_294_967_296 → d < 4_294_967_296
-      → at + 44 ≤ length bytes → Put bytes at (decimal a ++ (32 ∷ [])) x i → Put x i (decimal b ++ (32 ∷ [])) y j → Put y j (decimal c ++ (32 ∷ [])) z k
-      → Put z k (decimal d ++ (10 ∷ [])) after end → Put bytes at (row (a ∷ b ∷ c ∷ d ∷ [])) after end
-  unfolding row
-  put_four a b c d la lb lc ld room p q r s =
-      put-text (simp append_assoc)
-      (put-put (simp length-append (omega (arith, word-length a la, word-length b lb, word-length c lc, word-length d ld)))
-      (put-put (simp length-append (omega (arith, word-length a la, word-length b lb, word-length c lc)))
-      (put-put (simp length-append (omega (arith, word-length a la, word-length b lb))) p q) r) s)
-
   pub put-line : {x : List ℕ} {i end : ℕ} (k : ℕ) → k < 2 ^ 64 → at + 26 ≤ length bytes
       → Put bytes at (108 ∷ 105 ∷ 110 ∷ 101 ∷ 32 ∷ []) x i → Put x i (decimal k ++ (10 ∷ [])) after end → Put bytes at (line_line k) after end
   unfolding row

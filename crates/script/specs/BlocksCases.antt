@@ -1,10 +1,9 @@
 -- What `filled` does at one byte, case by case, as the code tells the cases apart; and lines one after the other.
-use Rattle.std.specs.Prelude.{ℕ, ◌+◌, ◌*◌, ◌<◌, ◌≤◌, Bool, ◌≡◌, length, get_or, drop, ltb}
-use mathlib.Core.List.{List, [], ◌∷◌}
+use Rattle.std.specs.Prelude.{ℕ, ◌+◌, ◌<◌, ◌≤◌, Bool, ◌≡◌, length, get_or, drop, ltb}
+use mathlib.Core.List.{List}
 use Rattle.std.proofs.Math.Bool.{cond}
-use Rattle.std.proofs.Common.{sym, ◌∙◌, arith, add-zero, add-one, length-set, length-append, drop_of_length-le, drop-cons, lt-ltb, le-ltb}
+use Rattle.std.proofs.Common.{sym, ◌∙◌, arith, add-one, length-set, drop_of_length-le, drop-cons, lt-ltb, le-ltb}
 use Rattle.std.proofs.Math.Path.{ap, ap₂}
-use Rattle.std.proofs.Math.Seq.{paste-zero}
 use Rattle.script.specs.declared.Line.{Line}
 use Rattle.script.specs.declared.Line.TheVariants.{Numbers, Malformed}
 use Rattle.script.specs.declared.Reader.{Reader}
@@ -13,8 +12,7 @@ use Rattle.script.specs.declared.Step.TheVariants.{More, Ended}
 use Rattle.script.specs.declared.Filled.{Filled}
 use Rattle.script.specs.declared.Filled.TheVariants.{Done, Full, Broken}
 use Rattle.script.specs.Reading.{started, step_of}
-use Rattle.script.specs.Writing.{row, Put}
-use Rattle.script.specs.Blocks.{words_put, filled, Took, stacked, answer_line}
+use Rattle.script.specs.Blocks.{words_put, filled, Took}
 
 -- what a step does to a block
 unfoldable pub stepped : Step → List ℕ → ℕ → List ℕ → ℕ → Filled × List ℕ

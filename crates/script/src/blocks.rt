@@ -4,7 +4,7 @@ ghost use Rattle.script.specs.Blocks.{words_put, Took, answer_line, stacked};
 ghost use Rattle.script.specs.Writing.{Put};
 
 use crate::read::{start, step};
-use crate::write::put_two;
+use crate::write::put_row;
 use crate::{Filled, Line, Reader, Step};
 
 // The five words of a command.
@@ -25,13 +25,10 @@ pub fn read_block(text: &[u8], from: usize, r: Reader, block: &mut [u32], used: 
     requires { used + 5 ≤ length block.old }
     ensures { Took r (drop from text.now) from block.old used result block.new }
 {
-    let mut at = from;
     let mut reader = r;
     let mut n = used;
-    while at < text.len() {
-        let byte = text[at];
-        at += 1;
-        match step(reader, byte) {
+    for at in from..text.len() {
+        match step(reader, text[at]) {
             Step::More(next) => {
                 reader = next;
             }
@@ -41,7 +38,7 @@ pub fn read_block(text: &[u8], from: usize, r: Reader, block: &mut [u32], used: 
                     n += 5;
                     reader = start();
                     if block.len() < n + 5 {
-                        return Filled::Full(at, n);
+                        return Filled::Full(at + 1, n);
                     }
                 }
                 Line::Malformed => {
@@ -59,10 +56,8 @@ pub fn put_answers(out: &mut [u8], at: usize, answers: &[u32], count: usize) -> 
     ensures { Put out.old at (stacked (answer_line answers.now) count) out.new result × (result ≤ at + 22 * count) }
 {
     let mut end = at;
-    let mut i = 0;
-    while i < count {
-        end = put_two(out, end, answers[2 * i], answers[2 * i + 1]);
-        i += 1;
+    for i in 0..count {
+        end = put_row(out, end, &[answers[2 * i], answers[2 * i + 1]]);
     }
     end
 }

@@ -144,9 +144,8 @@ pub fn finish(r: Reader) -> Last
 pub fn read_line(text: &[u8], from: usize, r: Reader) -> Scan
     ensures { result ≡ scanned r (drop from text.now) from }
 {
-    let mut at = from;
     let mut reader = r;
-    while at < text.len() {
+    for at in from..text.len() {
         match step(reader, text[at]) {
             Step::More(next) => {
                 reader = next;
@@ -155,7 +154,6 @@ pub fn read_line(text: &[u8], from: usize, r: Reader) -> Scan
                 return Scan::Found(line, at + 1);
             }
         }
-        at += 1;
     }
     Scan::Open(reader)
 }

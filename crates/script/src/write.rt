@@ -1,6 +1,6 @@
 // Writing: numbers and lines of numbers into a lent buffer, from a position on. Each function answers the position after what it wrote;
 // the bytes around it stay. Its caller sees to the room, by writing the buffer out first.
-ghost use Rattle.std.specs.Prelude.{◌+◌, ◌<◌, ◌≤◌, ◌∷◌, [], ◌++◌, length};
+ghost use Rattle.std.specs.Prelude.{◌+◌, ◌*◌, ◌<◌, ◌≤◌, ◌∷◌, [], ◌++◌, length};
 ghost use Rattle.script.specs.Writing.{decimal, row, sizes_line, line_line, Put};
 
 // A text whole.
@@ -8,12 +8,9 @@ fn put_bytes(out: &mut [u8], at: usize, text: &[u8]) -> usize
     requires { at + length text.now ≤ length out.old }
     ensures { Put out.old at text.now out.new result }
 {
-    let mut i = 0;
-    while i < text.len() {
-        out[at + i] = text[i];
-        i += 1;
-    }
-    at + i
+    let end = at + text.len();
+    out[at..end].copy_from_slice(text);
+    end
 }
 
 // A number in decimal, without leading zeros.
@@ -36,34 +33,17 @@ fn put_then(out: &mut [u8], at: usize, x: u64, after: u8) -> usize
     end + 1
 }
 
-// A line of two numbers: an answer, or free pages and crossing slots.
-pub fn put_two(out: &mut [u8], at: usize, a: u32, b: u32) -> usize
-    requires { at + 22 ≤ length out.old }
-    ensures { Put out.old at (row (a ∷ b ∷ [])) out.new result }
+// A line of numbers, of which each takes eleven bytes at most with the byte behind it.
+pub fn put_row(out: &mut [u8], at: usize, numbers: &[u32]) -> usize
+    requires { (0 < length numbers.now) × (at + 11 * length numbers.now ≤ length out.old) }
+    ensures { Put out.old at (row numbers.now) out.new result }
 {
-    let second = put_then(out, at, a as u64, 32);
-    put_then(out, second, b as u64, 10)
-}
-
-// A line of three numbers: objects made, objects freed and the total of live objects.
-pub fn put_three(out: &mut [u8], at: usize, a: u32, b: u32, c: u32) -> usize
-    requires { at + 33 ≤ length out.old }
-    ensures { Put out.old at (row (a ∷ b ∷ c ∷ [])) out.new result }
-{
-    let second = put_then(out, at, a as u64, 32);
-    let third = put_then(out, second, b as u64, 32);
-    put_then(out, third, c as u64, 10)
-}
-
-// A line of four numbers: a row of the report.
-pub fn put_four(out: &mut [u8], at: usize, a: u32, b: u32, c: u32, d: u32) -> usize
-    requires { at + 44 ≤ length out.old }
-    ensures { Put out.old at (row (a ∷ b ∷ c ∷ d ∷ [])) out.new result }
-{
-    let second = put_then(out, at, a as u64, 32);
-    let third = put_then(out, second, b as u64, 32);
-    let fourth = put_then(out, third, c as u64, 32);
-    put_then(out, fourth, d as u64, 10)
+    let last = numbers.len() - 1;
+    let mut end = at;
+    for x in &numbers[..last] {
+        end = put_then(out, end, *x as u64, 32);
+    }
+    put_then(out, end, numbers[last] as u64, 10)
 }
 
 // `sizes`: the first line is missing, malformed or out of range.
