@@ -5,7 +5,7 @@ use Rattle.std.proofs.Math.Path.{refl, sym, ap}
 use Rattle.std.proofs.Common.{ap₂, ◌∙◌}
 use Rattle.script.specs.declared.Line.{Line}
 use Rattle.script.specs.declared.Reader.{Reader}
-use Rattle.script.specs.declared.Last.TheVariants.{Nothing, Unended}
+use Rattle.std.specs.Prelude.{Option, None, Some}
 use Rattle.script.specs.Reading.{started, end_of, step_of, fresh, last_of}
 use Rattle.script.specs.TextLaws.{lastly, found, left, piecewise, reads-pieces}
 use Rattle.printed.specs.Printed.{Session, opening, takes, prints, takes_all, prints_all, ends_with, printed, stopped}
@@ -84,7 +84,7 @@ unfolding close_prints feed_prints feed last_of found left step_of
 close-whole m = go (fresh m.reader)
   where
     go : (t : Bool) → (prints_all m.session (found m.reader (cond t [] (10 ∷ []))) ++ ends_with (takes_all m.session (found m.reader (cond t [] (10 ∷ [])))))
-        ≡ whole m.session (lastly (cond t Nothing (Unended (end_of m.reader))))
+        ≡ whole m.session (lastly (cond t None (Some (end_of m.reader))))
     go true = refl
     go false = refl
 

@@ -5,8 +5,7 @@ use Rattle.script.specs.declared.Line.TheVariants.{Numbers, Malformed}
 use Rattle.script.specs.declared.Reader.{Reader}
 use Rattle.script.specs.declared.Step.{Step}
 use Rattle.script.specs.declared.Step.TheVariants.{More, Ended}
-use Rattle.script.specs.declared.Last.{Last}
-use Rattle.script.specs.declared.Last.TheVariants.{Nothing, Unended}
+use Rattle.std.specs.Prelude.{Option, None, Some}
 use Rattle.script.specs.declared.Scan.{Scan}
 use Rattle.script.specs.declared.Scan.TheVariants.{Open, Found}
 use Rattle.script.specs.Text.{is_digit}
@@ -55,8 +54,8 @@ unfoldable pub fresh : Reader → Bool
 fresh r = not r.malformed && (not r.digits && eqb r.complete 0)
 
 -- at the end of the input
-unfoldable pub last_of : Reader → Last
-last_of r = cond (fresh r) Nothing (Unended (end_of r))
+unfoldable pub last_of : Reader → Option Line
+last_of r = cond (fresh r) None (Some (end_of r))
 
 -- after these bytes, which begin at this position: up to the first line that ends among them
 unfoldable pub scanned : Reader → List ℕ → ℕ → Scan

@@ -9,7 +9,7 @@ use Rattle.script.specs.declared.Line.TheVariants.{Numbers, Malformed}
 use Rattle.script.specs.declared.Reader.{Reader}
 use Rattle.script.specs.declared.Step.{Step}
 use Rattle.script.specs.declared.Step.TheVariants.{More, Ended}
-use Rattle.script.specs.declared.Last.TheVariants.{Nothing, Unended}
+use Rattle.std.specs.Prelude.{Option, None, Some}
 use Rattle.script.specs.declared.Scan.{Scan}
 use Rattle.script.specs.declared.Scan.TheVariants.{Open, Found}
 use Rattle.script.specs.Reading.{spoilt, completed, numbering, spaced, digited, next_of, end_of, step_of, fresh, last_of, scanned}
@@ -78,19 +78,19 @@ module _ (r : Reader) where
 
   -- ---- the end of the input
 
-  pub last-fresh : r.malformed ≡ false → r.digits ≡ false → r.complete ≡ 0 → last_of r ≡ Nothing
+  pub last-fresh : r.malformed ≡ false → r.digits ≡ false → r.complete ≡ 0 → last_of r ≡ None
   unfolding last_of fresh
   last-fresh m d e = simp (m, d, eq-eqb _ _ e)
 
-  pub last-malformed : r.malformed ≡ true → last_of r ≡ Unended (end_of r)
+  pub last-malformed : r.malformed ≡ true → last_of r ≡ Some (end_of r)
   unfolding last_of fresh
   last-malformed m = simp m
 
-  pub last_digits : r.malformed ≡ false → r.digits ≡ true → last_of r ≡ Unended (end_of r)
+  pub last_digits : r.malformed ≡ false → r.digits ≡ true → last_of r ≡ Some (end_of r)
   unfolding last_of fresh
   last_digits m d = simp (m, d)
 
-  pub last-spaced : r.malformed ≡ false → r.digits ≡ false → (r.complete ≡ 0 → ⊥) → last_of r ≡ Unended (end_of r)
+  pub last-spaced : r.malformed ≡ false → r.digits ≡ false → (r.complete ≡ 0 → ⊥) → last_of r ≡ Some (end_of r)
   unfolding last_of fresh
   last-spaced m d n = simp (m, d, ne_eqb _ _ n)
 

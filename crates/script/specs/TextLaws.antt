@@ -7,8 +7,7 @@ use Rattle.script.specs.declared.Line.{Line}
 use Rattle.script.specs.declared.Reader.{Reader}
 use Rattle.script.specs.declared.Step.{Step}
 use Rattle.script.specs.declared.Step.TheVariants.{More, Ended}
-use Rattle.script.specs.declared.Last.{Last}
-use Rattle.script.specs.declared.Last.TheVariants.{Nothing, Unended}
+use Rattle.std.specs.Prelude.{Option, None, Some}
 use Rattle.script.specs.declared.Scan.{Scan}
 use Rattle.script.specs.declared.Scan.TheVariants.{Open, Found}
 use Rattle.script.specs.Text.{onto, lines, is_digit, says, text_says}
@@ -16,9 +15,9 @@ use Rattle.script.specs.Reading.{started, spoilt, completed, numbering, spaced, 
 use Rattle.script.specs.LineLaws.{ends, ends-says}
 
 -- the line that the end of the input brings
-abbrev pub lastly : Last → List Line
-lastly Nothing = []
-lastly (Unended l) = l ∷ []
+abbrev pub lastly : Option Line → List Line
+lastly None = []
+lastly (Some l) = l ∷ []
 
 -- the lines that the reader finds in a text, and at its end
 unfoldable pub reading : Reader → List ℕ → List Line
@@ -50,7 +49,7 @@ begun r b = go (eqb b 32) (is_digit b)
 
 finds-onto : (r : Reader) (b : ℕ) (ls : List (List ℕ)) → finds (next_of r b) ls ≡ finds r (onto b ls)
 unfolding finds onto ends last_of
-finds-onto r b [] = ap (λ (t : Bool). lastly (cond t Nothing (Unended (end_of (next_of r b))))) (begun r b)
+finds-onto r b [] = ap (λ (t : Bool). lastly (cond t None (Some (end_of (next_of r b))))) (begun r b)
 finds-onto r b (l ∷ ls) = refl
 
 finds-start : (ls : List (List ℕ)) → finds started ls ≡ map says ls

@@ -34,13 +34,6 @@ pub enum Step {
     Ended(Line),
 }
 
-// What the end of the input brings: no line has begun, or one ends without its line feed.
-#[derive(Clone, Copy)]
-pub enum Last {
-    Nothing,
-    Unended(Line),
-}
-
 // What the rest of a buffer brings: it ends inside a line, or a line ends in it, with the position after its line feed.
 #[derive(Clone, Copy)]
 pub enum Scan {

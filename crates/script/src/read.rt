@@ -1,8 +1,8 @@
 // Reading, byte by byte.
 ghost use Rattle.std.specs.Prelude.{◌≡◌, ◌+◌, ◌*◌, ◌<◌, drop};
-ghost use Rattle.script.specs.Reading.{started, spoilt, spaced, digited, next_of, end_of, step_of, last_of, scanned};
+ghost use Rattle.script.specs.Reading.{started, spoilt, spaced, digited, next_of, end_of, step_of, fresh, last_of, scanned};
 
-use crate::{Last, Line, Reader, Scan, Step};
+use crate::{Line, Reader, Scan, Step};
 
 // The reader at the start of a line.
 pub fn start() -> Reader
@@ -123,21 +123,20 @@ pub fn step(r: Reader, byte: u8) -> Step
     }
 }
 
-// The end of the input: the last line feed may be missing.
-pub fn finish(r: Reader) -> Last
+// No byte of the line is read yet.
+#[tactic(auto, unfolding(crate::specs::Reading::fresh))]
+fn is_fresh(r: Reader) -> bool
+    ensures { result ≡ fresh r }
+{
+    !r.malformed && !r.digits && r.complete == 0
+}
+
+// The end of the input: none, or a line that has begun ends here, since the last line feed may be missing.
+#[tactic(auto, unfolding(crate::specs::Reading::last_of))]
+pub fn finish(r: Reader) -> Option<Line>
     ensures { result ≡ last_of r }
 {
-    if r.malformed {
-        return Last::Unended(end(r));
-    }
-    if r.digits {
-        return Last::Unended(end(r));
-    }
-    if r.complete == 0 {
-        Last::Nothing
-    } else {
-        Last::Unended(end(r))
-    }
+    if is_fresh(r) { None } else { Some(end(r)) }
 }
 
 // The bytes of a buffer from a position on: up to the first line that ends among them, or all.

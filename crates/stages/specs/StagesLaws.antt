@@ -11,8 +11,7 @@ use Rattle.script.specs.Reading.{started, end_of, fresh, last_of}
 use Rattle.script.specs.TextLaws.{found}
 use Rattle.script.specs.declared.Filled.{Filled}
 use Rattle.script.specs.declared.Filled.TheVariants.{Done, Broken}
-use Rattle.script.specs.declared.Last.{Last}
-use Rattle.script.specs.declared.Last.TheVariants.{Nothing, Unended}
+use Rattle.std.specs.Prelude.{Option, None, Some}
 use Rattle.script.specs.Writing.{row, line_line, Put}
 use Rattle.script.specs.BlocksLaws.{used_in, length_found}
 use Rattle.script.proofs.WritingLaws.{decimal-length}
@@ -79,19 +78,19 @@ line_low n most e low = subst (λ (y : Stage). line_of y + n < most) e low
 
 -- ---- a line that has begun
 
-pub told-nothing : (r : Reader) {last : Last} → last ≡ last_of r → last ≡ Nothing → false ≡ not (fresh r)
+pub told-nothing : (r : Reader) {last : Option Line} → last ≡ last_of r → last ≡ None → false ≡ not (fresh r)
 unfolding last_of
 told-nothing r {last} e f = go (fresh r) (sym e ∙ f)
   where
-    go : (t : Bool) → cond t Nothing (Unended (end_of r)) ≡ Nothing → false ≡ not t
+    go : (t : Bool) → cond t None (Some (end_of r)) ≡ None → false ≡ not t
     go true q = refl
     go false q = absurd (let z : ◌≡◌ {A = ℕ} 0 1 = cc in let o : ⊥ = omega arith in o)
 
-pub told-unended : (r : Reader) {last : Last} {x : Line} → last ≡ last_of r → last ≡ Unended x → true ≡ not (fresh r)
+pub told-unended : (r : Reader) {last : Option Line} {x : Line} → last ≡ last_of r → last ≡ Some x → true ≡ not (fresh r)
 unfolding last_of
 told-unended r {last} {x} e f = go (fresh r) (sym e ∙ f)
   where
-    go : (t : Bool) → cond t Nothing (Unended (end_of r)) ≡ Unended x → true ≡ not t
+    go : (t : Bool) → cond t None (Some (end_of r)) ≡ Some x → true ≡ not t
     go true q = absurd (let z : ◌≡◌ {A = ℕ} 0 1 = cc in let o : ⊥ = omega arith in o)
     go false q = refl
 

@@ -7,7 +7,7 @@ ghost use Rattle.script.specs.BlocksLaws.{used_in};
 ghost use Rattle.stages.specs.declared.Stage.TheVariants.{Opening};
 ghost use Rattle.stages.specs.Stages.{stopped_at, begun_at, Proceeds};
 
-use script::{Filled, Last, Reader};
+use script::{Filled, Reader};
 
 // Where the program stands between two pieces of its input: it waits for the sizes, or the line of this number is the next, or a line
 // has stopped it. A line may have begun.
@@ -47,11 +47,7 @@ pub fn is_stopped(stage: Stage) -> bool
 fn has_begun(reader: Reader) -> bool
     ensures { result ≡ not (fresh reader) }
 {
-    let last = script::read::finish(reader);
-    match last {
-        Last::Nothing => false,
-        Last::Unended(_) => true,
-    }
+    script::read::finish(reader).is_some()
 }
 
 pub fn is_begun(stage: Stage) -> bool
