@@ -67,7 +67,7 @@ pub fn cross_to(p: Sizes, cells: &[u32], tables: &[u32], at: usize) -> u32
 {
     let cell = layout::cells::cell_of(at);
     let page = layout::cells::page_of(cell);
-    let used = layout::wide(layout::tables::used(p, tables, page));
+    let used = layout::tables::used(p, tables, page) as usize;
     if used <= layout::cells::place_of(cell) {
         return 0;
     }

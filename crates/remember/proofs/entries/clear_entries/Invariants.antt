@@ -1,12 +1,8 @@
 -- The entries below i are zero, and nothing else is changed.
-use Rattle.std.proofs.Common.{length, ◌≤◌, ◌-◌, max, ◌≡◌}
+use Rattle.std.proofs.Common.{◌≤◌, max}
 use Rattle.remember.specs.Stretches.{Cleared}
 use Rattle.remember.proofs.entries.clear_entries.Given as goal
 
 abbrev pub invariant-loop-i : goal.invariant-loop-i
 invariant-loop-i l =
-    (l.from ≤ l.i) × (l.i ≤ max l.from l.to) × (length l.remember ≡ length l.initial.remember) × Cleared l.entries l.from l.i l.initial.remember l.remember
-
-abbrev pub decreases-loop-i : goal.decreases-loop-i
-decreases-loop-i l =
-    l.to - l.i
+    (l.i ≤ max l.from l.to) × Cleared l.entries l.from l.i l.initial.remember l.remember

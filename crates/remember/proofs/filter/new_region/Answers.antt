@@ -1,20 +1,14 @@
 -- The entry goes with its slot, stays where it leads elsewhere, and else leads where its slot now does.
-use Rattle.std.proofs.Common.{arith, get_or, ℕ, List, ◌≡◌, sym, ap, ◌∙◌}
+use Rattle.std.proofs.Common.{get_or, ℕ, List, ◌≡◌, sym, ap, ◌∙◌}
 use Rattle.rules.specs.declared.Sizes.{Sizes}
 use Rattle.layout.specs.Places.{owner_of}
-use Rattle.layout.specs.Cells.{page_at, at-page}
+use Rattle.layout.specs.Cells.{page_at}
 use Rattle.remember.specs.Crossing.{crosses_from}
 use Rattle.remember.specs.Staying.{new-gone, new-stays, new-moved}
 use Rattle.remember.proofs.filter.new_region.Goals as goal
 
 home : (p : Sizes) (T : List ℕ) (at w q : ℕ) → q ≡ page_at at → w ≡ owner_of p T q → owner_of p T (page_at at) ≡ w
 home p T at w q e f = ap (λ (y : ℕ). owner_of p T y) (sym e) ∙ sym f
-
-pub owner-from-requires : goal.owner-from-requires
-owner-from-requires c = record {
-  room = c.requires.room;
-  page_lt_pages = omega (arith, c.page_at.ensures, at-page c.args.p c.args.at c.requires.at_bound);
-}
 
 pub returns-then-from-region : goal.returns-then-from-region
 returns-then-from-region c =
@@ -26,16 +20,6 @@ returns-then-g-region c =
     let page-at = c.page_at in
     let a = c.args in
     new-stays _ _ _ _ _ _ (λ z. c.if-from-region.false (sym (home a.p a.tables.now a.at c.owner-from.result page-at.result page-at.ensures c.owner-from.ensures) ∙ z)) c.if-g-region.true
-
-pub offset_bounds-cells-at : goal.offset_bounds-cells-at
-offset_bounds-cells-at c = omega (arith, c.requires)
-
-pub bounds-cells-at : goal.bounds-cells-at
-bounds-cells-at c =
-    omega (arith, c.requires.at_bound, c.requires.p_in_bounds)
-
-pub cross-requires : goal.cross-requires
-cross-requires c = record { names = c.requires.names c.if-g-region.false; room = c.requires.room }
 
 pub returns : goal.returns
 returns c =
