@@ -1,7 +1,6 @@
 -- The entries of a region from a place on are cut off.
-use Rattle.std.specs.Prelude.{ℕ, ◌-◌, ◌≤◌, ◌<◌, List, ◌≡◌}
+use Rattle.std.specs.Prelude.{ℕ, ◌≤◌, ◌<◌, List, ◌≡◌}
 use Rattle.layout.specs.Places.{entries_used, slot_region_in}
-use Rattle.remember.specs.Table.{region}
 
 -- the table m with its entries from place k on, which were all of region g; none of the others is
 pub record CutsTo (g N k : ℕ) (m m' : List ℕ) : Type 0 where

@@ -1,14 +1,6 @@
 -- The first words of the entries from a place on, and the next words of all.
-use Rattle.std.specs.Prelude.{ℕ, suc, ◌+◌, ◌-◌, ◌≤◌, ◌<◌, List, ◌++◌, ◌≡◌, refl, length, get_or, set, take, drop}
-use Rattle.std.proofs.Common.{sym, ap, subst, ◌∙◌, arith, length-set, length-append, length-take, length-drop, ext_get_or, get_or-append-add, get_or-drop, get_or-take}
-use Rattle.std.proofs.Math.Decide.{dec_lt, ℕ_discrete}
-use Rattle.std.proofs.Math.ListN.{get_or-append}
-use Rattle.lists.specs.Stores.{put, past}
-use Rattle.layout.specs.Places.{entries_used, slot_region_in}
-use Rattle.remember.specs.Table.{Entry, region, nth_region, entries_in}
-use Rattle.remember.specs.TableWords.{to-long, to_at}
-use Rattle.lists.specs.Zeros.{Cleared}
-use Rattle.chains.specs.Chains.{chains_of, places_of, followed, Among}
+use Rattle.std.specs.Prelude.{ℕ, suc, ◌+◌, ◌<◌, List, ◌≡◌, length, get_or}
+use Rattle.remember.specs.Table.{Entry}
 use Rattle.chains.specs.Firsts.{first_from, next_of}
 
 -- the first words of w are those of the entries from place i on

@@ -18,11 +18,9 @@ fn relink(entries: usize, remember: &[u32], last: usize, chains: &mut [u32])
     ensures { chains.new ≡ chains_of last entries (entries_in entries remember.now) ++ drop (last + entries) chains.old }
 {
     layout::clear(chains, 0, last + entries);
-    let used = layout::wide(layout::remember::used(remember));
-    let mut i = used;
-    while 0 < i {
-        i -= 1;
-        let g = layout::wide(layout::remember::region(entries, remember, i));
+    let used = layout::remember::used(remember) as usize;
+    for i in (0..used).rev() {
+        let g = layout::remember::region(entries, remember, i) as usize;
         let next = layout::chains::first(chains, g);
         layout::chains::set_next(last, chains, i, next);
         layout::chains::set_first(chains, g, (i + 1) as u32);
@@ -52,10 +50,8 @@ fn nexts_agree(
     ensures says { Says result (NextsAgree last (entries_in entries remember.now) chains.now) }
     ensures firsts { result ≡ true → Firsts last (entries_in entries remember.now) 0 first.new }
 {
-    let mut i = layout::wide(layout::remember::used(remember));
-    while 0 < i {
-        i -= 1;
-        let g = layout::wide(layout::remember::region(entries, remember, i));
+    for i in (0..layout::remember::used(remember) as usize).rev() {
+        let g = layout::remember::region(entries, remember, i) as usize;
         if layout::chains::next(last, chains, i) != layout::chains::first(first, g) {
             return false;
         }
@@ -64,34 +60,11 @@ fn nexts_agree(
     true
 }
 
-// Whether the words `from` up to `to` are zero.
-fn all_zero(words: &[u32], from: usize, to: usize) -> bool
-    requires { (from ≤ to) × (to ≤ length words.now) }
-    ensures { Says result ((j : ℕ) → from ≤ j → j < to → get_or words.now j 0 ≡ 0) }
+// Whether all of the words are zero.
+fn all_zero(words: &[u32]) -> bool
+    ensures { Says result ((j : ℕ) → j < length words.now → get_or words.now j 0 ≡ 0) }
 {
-    let mut i = from;
-    while i < to {
-        if words[i] != 0 {
-            return false;
-        }
-        i += 1;
-    }
-    true
-}
-
-// Whether the first n words of two slices are the same.
-fn same_words(a: &[u32], b: &[u32], n: usize) -> bool
-    requires { (n ≤ length a.now) × (n ≤ length b.now) }
-    ensures { Says result ((j : ℕ) → j < n → get_or a.now j 0 ≡ get_or b.now j 0) }
-{
-    let mut i: usize = 0;
-    while i < n {
-        if a[i] != b[i] {
-            return false;
-        }
-        i += 1;
-    }
-    true
+    words.iter().all(|x| *x == 0)
 }
 
 // Whether the words are those of the chains.
@@ -100,15 +73,11 @@ fn words_agree(entries: usize, remember: &[u32], last: usize, chains: &[u32]) ->
     requires entries_in_bounds { last + entries ≤ length chains.now }
     ensures { Says result (take (last + entries) chains.now ≡ chains_of last entries (entries_in entries remember.now)) }
 {
-    let used = layout::wide(layout::remember::used(remember));
+    let used = layout::remember::used(remember) as usize;
     let mut first = [0u32; 129];
-    if !nexts_agree(entries, remember, last, chains, &mut first) {
-        return false;
-    }
-    if !all_zero(chains, last + used, last + entries) {
-        return false;
-    }
-    same_words(chains, &first, last)
+    nexts_agree(entries, remember, last, chains, &mut first)
+        && all_zero(&chains[last + used..last + entries])
+        && chains[..last] == first[..last]
 }
 
 // Question 16: whether a slice is long enough, and has the chains of a remember table.
@@ -118,8 +87,5 @@ pub fn chains_whole(p: Sizes, remember: &[u32], chains: &[u32]) -> bool
 {
     let last = layout::regions::last_region(p);
     let entries = p.entries;
-    if chains.len() < last + entries {
-        return false;
-    }
-    words_agree(entries, remember, last, chains)
+    last + entries <= chains.len() && words_agree(entries, remember, last, chains)
 }

@@ -1,6 +1,5 @@
 -- `first` has the first words of the entries from place i on, whose next words are right.
 use Rattle.std.proofs.Common.{ℕ, ◌+◌, ◌≤◌, ◌<◌, ◌≡◌, length, get_or}
-use Rattle.layout.specs.Places.{entries_used}
 use Rattle.remember.specs.Table.{entries_in}
 use Rattle.chains.specs.Firsts.{next_of}
 use Rattle.chains.specs.Linking.{Firsts}
@@ -8,8 +7,5 @@ use Rattle.chains.proofs.nexts_agree.Given as goal
 
 abbrev pub invariant-loop-i : goal.invariant-loop-i
 invariant-loop-i l =
-    (l.i ≤ entries_used l.remember) × (length l.first ≡ length l.initial.first) × Firsts l.last (entries_in l.entries l.remember) l.i l.first
+    Firsts l.last (entries_in l.entries l.remember) l.i l.first
     × ((j : ℕ) → l.i ≤ j → j < length (entries_in l.entries l.remember) → get_or l.chains (l.last + j) 0 ≡ next_of (entries_in l.entries l.remember) j)
-
-abbrev pub decreases-loop-i : goal.decreases-loop-i
-decreases-loop-i l = l.i

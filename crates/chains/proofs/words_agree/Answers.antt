@@ -1,49 +1,81 @@
 -- The three parts of the claim: each refutes it where it fails, and together they are it.
-use Rattle.std.proofs.Common.{◌∙◌, arith}
-use Rattle.lists.specs.Says.{says-no, said-no}
+use Rattle.std.specs.Prelude.{Bool, false, ℕ, ◌+◌, ◌-◌, ◌≤◌, ◌<◌, List, ◌≡◌, length, get_or, take, drop}
+use Rattle.std.proofs.Common.{sym, ap, ◌∙◌, arith, ext_get_or, get_or-take, get_or-drop, length-take, length-drop}
+use Rattle.std.proofs.lemmas.Bool.Decides.{Decides-eqb}
+use Rattle.std.proofs.lemmas.Slice.Eq.{slice_eq-Decides}
+use Rattle.lists.specs.Says.{Says, said-no, true-not-false}
 use Rattle.remember.specs.TableWords.{zeros}
 use Rattle.chains.proofs.Linking.{agree-nexts, agree-rest, agree-firsts, agree-all}
 use Rattle.chains.proofs.words_agree.Goals as goal
+use Rattle.chains.proofs.words_agree.Goals.{then-nexts_agree, else-nexts_agree}
 
-pub used-requires : goal.used-requires
-used-requires c = omega (arith, c.requires.listed.long)
+-- the words of a part of a list
+module _ (f : List ℕ) (a b : ℕ) (low : a ≤ b) (high : b ≤ length f) where
+  part-long : length (take (b - a) (drop a f)) ≡ b - a
+  part-long = omega (arith, length-take (b - a) (drop a f), length-drop a f)
 
-pub nexts_agree-requires : goal.nexts_agree-requires
-nexts_agree-requires c = record {
-  listed = c.requires.listed;
-  entries_in_bounds = c.requires.entries_in_bounds;
-  last_in_bounds = (c.requires.listed.few, λ r l. zeros 129 r);
-}
+  part-at : (i : ℕ) → i < b - a → get_or (take (b - a) (drop a f)) i 0 ≡ get_or f (a + i) 0
+  part-at i l = get_or-take (b - a) (drop a f) i 0 l ∙ get_or-drop a f i 0
 
-pub returns-then-not-nexts_agree : goal.returns-then-not-nexts_agree
-returns-then-not-nexts_agree c =
-    let args = c.args in
-    says-no (λ e. said-no c.nexts_agree.result c.nexts_agree.ensures.says c.if-not-nexts_agree.true
-    (agree-nexts args.last args.entries args.remember.now c.requires.listed.room args.chains.now c.requires.entries_in_bounds e))
+  zeros-in : ((i : ℕ) → i < length (take (b - a) (drop a f)) → get_or (take (b - a) (drop a f)) i 0 ≡ 0) → (j : ℕ) → a ≤ j → j < b → get_or f j 0 ≡ 0
+  zeros-in z j l h =
+      let e : a + (j - a) ≡ j = omega arith in
+      ap (λ (k : ℕ). get_or f k 0) (sym e) ∙ sym (part-at (j - a) (omega arith)) ∙ z (j - a) (omega (arith, part-long))
 
-pub overflow_add-last : goal.overflow_add-last
-overflow_add-last c = omega (arith, c.requires.listed.few, c.requires.listed.entries, c.requires.listed.room, c.wide-used.ensures, c.used.ensures)
+  zeros-of : ((j : ℕ) → a ≤ j → j < b → get_or f j 0 ≡ 0) → (i : ℕ) → i < length (take (b - a) (drop a f)) → get_or (take (b - a) (drop a f)) i 0 ≡ 0
+  zeros-of z i l = part-at i (omega (arith, part-long)) ∙ z (a + i) (omega arith) (omega (arith, part-long))
 
-pub overflow_add-last-2 : goal.overflow_add-last-2
-overflow_add-last-2 c = omega (arith, c.requires.listed.few, c.requires.listed.entries)
+-- two lists whose first words are the same
+module _ (f w : List ℕ) (n : ℕ) (lf : n ≤ length f) (lw : n ≤ length w) where
+  same-words : take n f ≡ take n w → (j : ℕ) → j < n → get_or f j 0 ≡ get_or w j 0
+  same-words e j l = sym (get_or-take n f j 0 l) ∙ ap (λ (k : List ℕ). get_or k j 0) e ∙ get_or-take n w j 0 l
 
-pub all_zero-requires : goal.all_zero-requires
-all_zero-requires c = (omega (arith, c.requires.listed.room, c.wide-used.ensures, c.used.ensures), c.requires.entries_in_bounds)
+  words-same : ((j : ℕ) → j < n → get_or f j 0 ≡ get_or w j 0) → take n f ≡ take n w
+  words-same h =
+      ext_get_or 0 (take n f) (take n w) (omega (arith, length-take n f, length-take n w))
+      (λ j l. let m : j < n = omega (arith, length-take n f) in get_or-take n f j 0 m ∙ h j m ∙ sym (get_or-take n w j 0 m))
 
-pub returns-then-not-all_zero : goal.returns-then-not-all_zero
-returns-then-not-all_zero c =
-    let args = c.args in
-    says-no (λ e. said-no c.all_zero.result c.all_zero.ensures c.if-not-all_zero.true
-    (agree-rest args.last args.entries args.remember.now c.requires.listed.room args.chains.now c.requires.entries_in_bounds (c.wide-used.ensures ∙ c.used.ensures) e))
+says-none : {P : Type 0} {b : Bool} → b ≡ false → (P → ⊥) → Says b P
+says-none e n = (λ q. absurd (true-not-false (sym e ∙ q)), λ p. absurd (n p))
 
-pub returns : goal.returns
-returns c =
-    let args = c.args in
-    let nexts = c.if-not-nexts_agree.false in
-    let firsts = c.nexts_agree.ensures.firsts nexts in
-    let w = c.nexts_agree.new.first in (
-      λ q.
-          agree-all args.last args.entries args.remember.now c.requires.listed.room args.chains.now c.requires.entries_in_bounds w (c.wide-used.ensures ∙ c.used.ensures) (c.nexts_agree.ensures.says.0 nexts)
-          (c.all_zero.ensures.0 c.if-not-all_zero.false) firsts (c.same_words.ensures.0 q),
-      λ e. c.same_words.ensures.1 (agree-firsts args.last args.entries args.remember.now c.requires.listed.room args.chains.now c.requires.entries_in_bounds w firsts e),
-    )
+pub nexts_agree-requires-clause-last_in_bounds : goal.nexts_agree-requires-clause-last_in_bounds
+nexts_agree-requires-clause-last_in_bounds c = (c.requires.listed.few, λ r l. zeros 129 r)
+
+pub returns-then-all_zero : goal.returns-then-all_zero
+returns-then-all_zero c =
+    let a = c.args in
+    let t = c.requires.listed.room in
+    let r = c.requires.entries_in_bounds in
+    let first = c.nexts_agree.new.first in
+    let few : a.last ≤ length first = omega (arith, c.requires.listed.few, c.nexts_agree.auto.first) in
+    let same = slice_eq-Decides Decides-eqb _ _ _ c.eq.ensures in
+    elim c.if-nexts_agree.branch [
+      | then-nexts_agree w ↦
+          let nexts = w.if-nexts_agree.true in
+          let firsts = c.nexts_agree.ensures.firsts nexts in
+          let zero = w.all_zero.ensures.0 (sym w.value-is ∙ c.if-all_zero.true) in (
+            λ q.
+                agree-all a.last a.entries a.remember.now t a.chains.now r first c.used-used.ensures (c.nexts_agree.ensures.says.0 nexts)
+                (zeros-in a.chains.now (a.last + c.used-used.result) (a.last + a.entries) (omega (arith, t, c.used-used.ensures)) r zero) firsts
+                (same-words a.chains.now first a.last (omega arith) few (same.0 q)),
+            λ e. same.1 (words-same a.chains.now first a.last (omega arith) few (agree-firsts a.last a.entries a.remember.now t a.chains.now r first firsts e)),
+          )
+      | else-nexts_agree w ↦ absurd (true-not-false (sym w.if-nexts_agree.false ∙ sym w.value-is ∙ c.if-all_zero.true))
+    ]
+
+pub returns-else-all_zero : goal.returns-else-all_zero
+returns-else-all_zero c =
+    let a = c.args in
+    let t = c.requires.listed.room in
+    let r = c.requires.entries_in_bounds in
+    elim c.if-nexts_agree.branch [
+      | then-nexts_agree w ↦
+          says-none c.if-all_zero.false
+          (λ e.
+          said-no w.all_zero.result w.all_zero.ensures (sym w.value-is ∙ c.if-all_zero.false)
+          (zeros-of a.chains.now (a.last + c.used-used.result) (a.last + a.entries) (omega (arith, t, c.used-used.ensures)) r
+          (agree-rest a.last a.entries a.remember.now t a.chains.now r c.used-used.ensures e)))
+      | else-nexts_agree w ↦
+          says-none c.if-all_zero.false
+          (λ e. said-no c.nexts_agree.result c.nexts_agree.ensures.says w.if-nexts_agree.false (agree-nexts a.last a.entries a.remember.now t a.chains.now r e))
+    ]
