@@ -1,5 +1,5 @@
 -- What a command's five words decode to, and that its number is the rules' answer to questions 6, 7 and 8.
-use Rattle.std.specs.Prelude.{◌≡◌, ℕ, zero, suc, ◌+◌, ◌<◌, ◌≤◌, Bool, true, false, ◌&&◌, List, map, length, ◌==◌, ◌≢◌, nat_le, nat_lt, slice_index, refl}
+use Rattle.std.specs.Prelude.{◌≡◌, ℕ, zero, suc, ◌+◌, ◌<◌, ◌≤◌, Bool, true, false, ◌&&◌, List, map, length, ◌==◌, ◌≢◌, nat_le, nat_lt, slice_index, Result, Ok, Err, refl}
 use Rattle.std.proofs.Common.{sym, ap, ap₂, ◌∙◌, ltb-true, leb-true, eqb-true, arith}
 use Rattle.std.proofs.Math.Path.{subst}
 use Rattle.std.proofs.Math.Decide.{dec_lt}
@@ -11,58 +11,51 @@ use Rattle.rules.specs.declared.Sizes.{Sizes}
 use Rattle.rules.specs.declared.Command.{Command}
 use Rattle.rules.specs.Terms.{Code, unknown, start, end, new, copy, clear, load, store, read, write, same, collect, codes, decode, ask, limits, refused, done, first}
 use Rattle.rules.specs.declared.Answer.{Answer}
+use Rattle.rules.specs.declared.Refusal.{Refusal}
+use Rattle.rules.specs.declared.Refusal.TheVariants as R
+use Rattle.rules.specs.Refusals as refusals
 use Rattle.rules.specs.NeverFreeing.{NeverFreeing, operands, known, question, state}
 use Rattle.layout.specs.Cells.{most_fields}
 use Rattle.commands.specs.declared.Decoded.{Decoded}
-use Rattle.commands.specs.declared.Decoded.TheVariants.{Start, End, New, Copy, Clear, Load, Store, Read, Write, Same, Collect, Refused}
+use Rattle.commands.specs.declared.Decoded.TheVariants.{Start, End, New, Copy, Clear, Load, Store, Read, Write, Same, Collect}
 
 -- questions 7 and 8, then the command
-abbrev pub checked_by : Bool → Bool → Decoded → Decoded
-checked_by false y d = Refused 7
-checked_by true false d = Refused 8
+abbrev pub checked_by : Bool → Bool → Result Decoded Refusal → Result Decoded Refusal
+checked_by false y d = Err R.Thread
+checked_by true false d = Err R.Operand
 checked_by true true d = d
 
 -- the command that a code names
-abbrev pub named : Code → ℕ → ℕ → ℕ → ℕ → Decoded
-named unknown t a b c = Refused 6
-named start t a b c = Start t
-named end t a b c = End t
-named new t a b c = New t a b c
-named copy t a b c = Copy t a b c
-named clear t a b c = Clear t a
-named load t a b c = Load t a b c
-named store t a b c = Store t a b c
-named read t a b c = Read t a b
-named write t a b c = Write t a b c
-named same t a b c = Same t a b
-named collect t a b c = Collect t
+abbrev pub named : Code → ℕ → ℕ → ℕ → ℕ → Result Decoded Refusal
+named unknown t a b c = Err R.Code
+named start t a b c = Ok (Start t)
+named end t a b c = Ok (End t)
+named new t a b c = Ok (New t a b c)
+named copy t a b c = Ok (Copy t a b c)
+named clear t a b c = Ok (Clear t a)
+named load t a b c = Ok (Load t a b c)
+named store t a b c = Ok (Store t a b c)
+named read t a b c = Ok (Read t a b)
+named write t a b c = Ok (Write t a b c)
+named same t a b c = Ok (Same t a b)
+named collect t a b c = Ok (Collect t)
 
-abbrev pub known-then : Bool → Decoded → Decoded
+abbrev pub known-then : Bool → Result Decoded Refusal → Result Decoded Refusal
 known-then true d = d
-known-then false d = Refused 6
+known-then false d = Err R.Code
 
-unfoldable pub decoded_by : Sizes → Code → ℕ → ℕ → ℕ → ℕ → Decoded
+unfoldable pub decoded_by : Sizes → Code → ℕ → ℕ → ℕ → ℕ → Result Decoded Refusal
 decoded_by s o t a b c = known-then (known o) (checked_by (nat_lt t s.threads) (operands (limits s) o a b c) (named o t a b c))
 
-abbrev pub decoded_of : Sizes → Command → Decoded
+abbrev pub decoded_of : Sizes → Command → Result Decoded Refusal
 decoded_of s m = decoded_by s (decode m.code) m.thread m.a m.b m.c
 
 -- 01's number and value of a decoded command: its refusal, or 0 and 0 where it is not refused yet
-abbrev pub decoded_answer : Decoded → Answer
-decoded_answer (Start t) = done 0
-decoded_answer (End t) = done 0
-decoded_answer (New t a b c) = done 0
-decoded_answer (Copy t a b c) = done 0
-decoded_answer (Clear t a) = done 0
-decoded_answer (Load t a b c) = done 0
-decoded_answer (Store t a b c) = done 0
-decoded_answer (Read t a b) = done 0
-decoded_answer (Write t a b c) = done 0
-decoded_answer (Same t a b) = done 0
-decoded_answer (Collect t) = done 0
-decoded_answer (Refused q) = refused q
+abbrev pub decoded_answer : Result Decoded Refusal → Answer
+decoded_answer (Ok d) = done 0
+decoded_answer (Err q) = refused (refusals.number_of q)
 
-abbrev pub number_of : Decoded → ℕ
+abbrev pub number_of : Result Decoded Refusal → ℕ
 number_of d = (decoded_answer d).number
 
 -- questions 6, 7 and 8, by the rules' own tests
@@ -75,7 +68,7 @@ abbrev pub asked_answer : Sizes → Command → Answer
 asked_answer s m = record { number = asked s m; value = 0 }
 
 -- d is command m decoded, and its answer is that of questions 6, 7 and 8
-pub record Decodes (s : Sizes) (m : Command) (d : Decoded) : Type 0 where
+pub record Decodes (s : Sizes) (m : Command) (d : Result Decoded Refusal) : Type 0 where
   pub answer : decoded_answer d ≡ asked_answer s m
   pub command : d ≡ decoded_of s m
 
@@ -128,7 +121,6 @@ command_for (Read t a b) = record { code = 8; thread = t; a = a; b = b; c = 0 }
 command_for (Write t a b c) = record { code = 9; thread = t; a = a; b = b; c = c }
 command_for (Same t a b) = record { code = 10; thread = t; a = a; b = b; c = 0 }
 command_for (Collect t) = record { code = 11; thread = t; a = 0; b = 0; c = 0 }
-command_for (Refused q) = record { code = 0; thread = 0; a = 0; b = 0; c = 0 }
 
 -- its operands are in range
 abbrev pub Within : Sizes → Decoded → Type 0
@@ -143,15 +135,23 @@ Within s (Read t a b) = (t < s.threads) × (a < s.variables)
 Within s (Write t a b c) = (t < s.threads) × (a < s.variables)
 Within s (Same t a b) = (t < s.threads) × (a < s.variables) × (b < s.variables)
 Within s (Collect t) = t < s.threads
-Within s (Refused q) = Unit
 
 pub record Means (s : Sizes) (m : Command) (d : Decoded) : Type 0 where
   pub command : m ≡ command_for d
   pub within : Within s d
 
 -- a code's number, as its command has it: its place in the list of codes
+abbrev code_in : Result Decoded Refusal → ℕ
+code_in (Ok d) = (command_for d).code
+code_in (Err q) = 0
+
 abbrev code_of : Code → ℕ
-code_of o = (command_for (named o 0 0 0 0)).code
+code_of o = code_in (named o 0 0 0 0)
+
+-- what is decoded and not refused is the command
+abbrev Meant : Sizes → Command → Result Decoded Refusal → Type 0
+Meant s m (Ok d) = Means s m d
+Meant s m (Err q) = Unit {0}
 
 numbers : map code_of codes ≡ listed (λ n. n) (length codes)
 unfolding listed
@@ -172,7 +172,7 @@ spelt : {n n' t a a' b b' c c' : ℕ} → n ≡ n' → a ≡ a' → b ≡ b' →
 spelt {t = t} e ea eb ec = λ i. record { code = e i; thread = t; a = ea i; b = eb i; c = ec i }
 
 back_by : (s : Sizes) (o : Code) (n t a b c : ℕ) → n ≡ code_of o → known o ≡ true → t < s.threads → operands (limits s) o a b c ≡ true
-    → Means s (record { code = n; thread = t; a = a; b = b; c = c }) (named o t a b c)
+    → Meant s (record { code = n; thread = t; a = a; b = b; c = c }) (named o t a b c)
 unfolding operands
 back_by s unknown n t a b c e k l q = absurd (true-not-false k)
 back_by s start n t a b c e k l q =
@@ -202,27 +202,49 @@ back_by s same n t a b c e k l q =
 back_by s collect n t a b c e k l q =
     let r = three (a == 0) (b == 0) (c == 0) q in record { command = spelt e (eqb-true a 0 r.0) (eqb-true b 0 r.1) (eqb-true c 0 r.2); within = l }
 
-module _ {s : Sizes} {m : Command} {d : Decoded} (g : Decodes s m d) where
-  asked-number : asked s m ≡ number_of d
-  asked-number = sym (ap (λ (a : Answer). a.number) g.answer)
+asked-number : {s : Sizes} {m : Command} {d : Result Decoded Refusal} → Decodes s m d → asked s m ≡ number_of d
+asked-number g = sym (ap (λ (a : Answer). a.number) g.answer)
 
-  -- what was decoded and not refused is the command
-  pub decoded-means : number_of d ≡ 0 → Means s m d
-  unfolding asked
-  decoded-means z =
-      let f : asked s m ≡ 0 = asked-number ∙ z in
-      let r = all_true (known (decode m.code)) (nat_lt m.thread s.threads) (operands (limits s) (decode m.code) m.a m.b m.c) f in
-      subst (Means s m) (sym (g.command ∙ decoded-named s m f))
-      (back_by s (decode m.code) m.code m.thread m.a m.b m.c (code-back m.code r.0) r.0 (ltb-true m.thread s.threads r.1) r.2)
+-- what was decoded and not refused is the command
+pub decoded-means : {s : Sizes} {m : Command} {d : Decoded} → Decodes s m (Ok d) → Means s m d
+unfolding asked
+decoded-means {s} {m} {d} g =
+    let f : asked s m ≡ 0 = asked-number g in
+    let r = all_true (known (decode m.code)) (nat_lt m.thread s.threads) (operands (limits s) (decode m.code) m.a m.b m.c) f in
+    subst (Meant s m) (sym (g.command ∙ decoded-named s m f))
+    (back_by s (decode m.code) m.code m.thread m.a m.b m.c (code-back m.code r.0) r.0 (ltb-true m.thread s.threads r.1) r.2)
 
--- a refusal's number is not 0: then it would be the command of a code that is not known
-pub refused-number : {s : Sizes} {m : Command} (q : ℕ) → Decodes s m (Refused q) → 0 < q
-unfolding asked ask
-refused-number {s} zero g = omega (arith, asked-number g, ap (asked s) (decoded-means g refl).command)
-refused-number (suc q) g = omega arith
+-- the number of a question is not 0
+pub question-nonzero : (q : Refusal) → refusals.number_of q ≢ 0
+question-nonzero q =
+    elim q as (λ r. refusals.number_of r ≢ 0) [
+      | R.Sizes ↦ λ e. omega arith
+      | R.Short ↦ λ e. omega arith
+      | R.NotWhole ↦ λ e. omega arith
+      | R.Block ↦ λ e. omega arith
+      | R.Answers ↦ λ e. omega arith
+      | R.Code ↦ λ e. omega arith
+      | R.Thread ↦ λ e. omega arith
+      | R.Operand ↦ λ e. omega arith
+      | R.Null ↦ λ e. omega arith
+      | R.Field ↦ λ e. omega arith
+      | R.Depth ↦ λ e. omega arith
+      | R.NoEpoch ↦ λ e. omega arith
+      | R.Pages ↦ λ e. omega arith
+      | R.Entries ↦ λ e. omega arith
+      | R.Rows ↦ λ e. omega arith
+      | R.Chains ↦ λ e. omega arith
+    ]
+
+-- nor is that of a refusal
+pub refused-number : {s : Sizes} {m : Command} (q : Refusal) → Decodes s m (Err q) → 0 < refusals.number_of q
+refused-number q g = omega (arith, question-nonzero q)
+
+first-pos : (x y : ℕ) → 0 < x → first x y ≡ x
+first-pos zero y l = absurd (let o : ⊥ = omega arith in o)
+first-pos (suc x) y l = refl
 
 -- and what was refused is refused by the rules, with the same number
-pub decoded-refused : {s : Sizes} {m : Command} (q : ℕ) → Decodes s m (Refused q) → (n : NeverFreeing) → question (limits s) n m ≡ q
-decoded-refused zero g n = absurd (let o : ⊥ = omega (arith, refused-number 0 g) in o)
-decoded-refused {s} {m} (suc q) g n =
-    question-first s n m ∙ ap (λ (x : ℕ). first x (state (limits s) n m)) (asked-number g)
+pub decoded-refused : {s : Sizes} {m : Command} (q : Refusal) → Decodes s m (Err q) → (n : NeverFreeing) → question (limits s) n m ≡ refusals.number_of q
+decoded-refused {s} {m} q g n =
+    question-first s n m ∙ ap (λ (x : ℕ). first x (state (limits s) n m)) (asked-number g) ∙ first-pos (refusals.number_of q) (state (limits s) n m) (refused-number q g)

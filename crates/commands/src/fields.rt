@@ -1,6 +1,7 @@
 // The fields of an object, references and numbers alike: codes 6, 8 and 9.
 ghost use Rattle.std.specs.Prelude.{◌≡◌, ◌+◌, ◌-◌, ◌<◌, length, slice_index, slice_set};
 ghost use Rattle.rules.specs.NeverFreeing.{used};
+ghost use Rattle.rules.specs.Refusals.{asked, answer_of};
 ghost use Rattle.layout.specs.Cells.{head_of, field_count, first_field, kind_at};
 ghost use Rattle.layout.specs.Words.{words};
 ghost use Rattle.promises.specs.Whole.{WholeFor};
@@ -11,21 +12,21 @@ ghost use Rattle.commands.specs.declared.Decoded.TheVariants.{Load, Read, Write}
 
 use crate::variables::{read_var, write_var};
 use layout::Kind;
-use rules::{Answer, Sizes};
+use rules::{Refusal, Sizes};
 
 // Questions 9 and 10, of a reference x and field f of its object.
-pub fn field_question(kind: Kind, cells: &[u32], x: u32, f: usize) -> u32
+pub fn field_question(kind: Kind, cells: &[u32], x: u32, f: usize) -> Result<(), Refusal>
     requires { NamesCell x (length cells.now) }
-    ensures { result ≡ used x f (field_count kind (head_of cells.now (x - 1))) }
+    ensures { asked result ≡ used x f (field_count kind (head_of cells.now (x - 1))) }
 {
     if x == 0 {
-        return 9;
+        return Err(Refusal::Null);
     }
     let head = layout::cells::head(cells, layout::cells::cell_named(x));
-    if f < layout::cells::field_count(kind, head) {
-        return 0;
+    if layout::cells::field_count(kind, head) <= f {
+        return Err(Refusal::Field);
     }
-    10
+    Ok(())
 }
 
 // Which of all fields of its object that is.
@@ -72,23 +73,17 @@ pub fn load(
     a: usize,
     b: usize,
     f: usize,
-) -> Answer
+) -> Result<u32, Refusal>
     requires whole_for { WholeFor p (words cells.now remember.now tables.old) }
     requires t_lt_threads { (t < p.threads) × (a < p.variables) × (b < p.variables) }
-    ensures does { Does p cells.now remember.now tables.old (Load t a b f) cells.now remember.now tables.new result }
+    ensures does { Does p cells.now remember.now tables.old (Load t a b f) cells.now remember.now tables.new (answer_of result) }
     ensures none_freed { NoneFreed p tables.old tables.new }
 {
     let x = read_var(p, tables, t, b);
-    let q = field_question(Kind::Reference, cells, x, f);
-    if q != 0 {
-        return rules::refused(q);
-    }
+    field_question(Kind::Reference, cells, x, f)?;
     let v = read_field(Kind::Reference, cells, x, f);
     write_var(p, tables, t, a, v);
-    if v == 0 {
-        return rules::done(0);
-    }
-    rules::done(1)
+    Ok(u32::from(v != 0))
 }
 
 // Code 8: the value is number f of the object in variable a.
@@ -100,18 +95,14 @@ pub fn read(
     t: usize,
     a: usize,
     f: usize,
-) -> Answer
+) -> Result<u32, Refusal>
     requires whole_for { WholeFor p (words cells.now remember.now tables.now) }
     requires t_lt_threads { (t < p.threads) × (a < p.variables) }
-    ensures { Does p cells.now remember.now tables.now (Read t a f) cells.now remember.now tables.now result }
+    ensures { Does p cells.now remember.now tables.now (Read t a f) cells.now remember.now tables.now (answer_of result) }
 {
     let x = read_var(p, tables, t, a);
-    let q = field_question(Kind::Number, cells, x, f);
-    if q != 0 {
-        return rules::refused(q);
-    }
-    let v = read_field(Kind::Number, cells, x, f);
-    rules::done(v)
+    field_question(Kind::Number, cells, x, f)?;
+    Ok(read_field(Kind::Number, cells, x, f))
 }
 
 // Code 9: v becomes number f of the object in variable a.
@@ -124,16 +115,13 @@ pub fn write(
     a: usize,
     f: usize,
     v: u32,
-) -> Answer
+) -> Result<u32, Refusal>
     requires whole_for { WholeFor p (words cells.old remember.now tables.now) }
     requires t_lt_threads { (t < p.threads) × (a < p.variables) }
-    ensures { Does p cells.old remember.now tables.now (Write t a f v) cells.new remember.now tables.now result }
+    ensures { Does p cells.old remember.now tables.now (Write t a f v) cells.new remember.now tables.now (answer_of result) }
 {
     let x = read_var(p, tables, t, a);
-    let q = field_question(Kind::Number, cells, x, f);
-    if q != 0 {
-        return rules::refused(q);
-    }
+    field_question(Kind::Number, cells, x, f)?;
     write_field(Kind::Number, cells, x, f, v);
-    rules::done(0)
+    Ok(0)
 }

@@ -11,7 +11,7 @@ pub mod obey;
 pub mod store;
 pub mod variables;
 
-// A command whose operands are in range, its thread first; or the number, 6, 7 or 8, of the question that says no.
+// A command whose operands are in range, its thread first.
 #[derive(Clone, Copy)]
 pub enum Decoded {
     Start(usize),
@@ -25,7 +25,6 @@ pub enum Decoded {
     Write(usize, usize, usize, u32),
     Same(usize, usize, usize),
     Collect(u32),
-    Refused(u32),
 }
 
 // The answer to a command; or the thread of an end or of a collection, which are left to the caller. The thread is a u32 as the answer's words

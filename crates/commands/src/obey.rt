@@ -12,7 +12,7 @@ use crate::new::new_object;
 use crate::store::store;
 use crate::variables::{clear, copy, same, start};
 use crate::{Decoded, Obeyed};
-use rules::{Command, Sizes};
+use rules::{Answer, Command, Sizes};
 
 // Every command but an end and a collection is answered here; of these two, which change nothing yet, the thread is given. The notes are
 // right of the tables (`Noted`, crate `pages`), and the chains are those of the remember table.
@@ -32,25 +32,34 @@ pub fn obey(
     ensures noted_2 { Noted p tables.new notes.new }
     ensures chains_after { chains.new ≡ with_chains p remember.new chains.old }
 {
-    let d = decode(p, m);
-    match d {
-        Decoded::Start(t) => Obeyed::Answered(start(p, cells, remember, tables, t)),
-        Decoded::End(t) => Obeyed::Ends(t),
-        Decoded::New(t, a, b, c) => Obeyed::Answered(new_object(
+    match decode(p, m) {
+        Ok(Decoded::Start(t)) => Obeyed::Answered(start(p, cells, remember, tables, t).into()),
+        Ok(Decoded::End(t)) => Obeyed::Ends(t),
+        Ok(Decoded::New(t, a, b, c)) => Obeyed::Answered(new_object(
             p, cells, remember, tables, notes, t, a, b, c,
-        )),
-        Decoded::Copy(t, a, b, c) => Obeyed::Answered(copy(p, cells, remember, tables, t, a, b, c)),
-        Decoded::Clear(t, a) => Obeyed::Answered(clear(p, cells, remember, tables, t, a)),
-        Decoded::Load(t, a, b, c) => Obeyed::Answered(load(p, cells, remember, tables, t, a, b, c)),
-        Decoded::Store(t, a, b, c) => Obeyed::Answered(store(
-            p, cells, remember, tables, chains, t, a, b, c,
-        )),
-        Decoded::Read(t, a, b) => Obeyed::Answered(read(p, cells, remember, tables, t, a, b)),
-        Decoded::Write(t, a, b, c) => Obeyed::Answered(write(
+        ).into()),
+        Ok(Decoded::Copy(t, a, b, c)) => Obeyed::Answered(copy(
             p, cells, remember, tables, t, a, b, c,
-        )),
-        Decoded::Same(t, a, b) => Obeyed::Answered(same(p, cells, remember, tables, t, a, b)),
-        Decoded::Collect(t) => Obeyed::Collects(t),
-        Decoded::Refused(q) => Obeyed::Answered(rules::refused(q)),
+        ).into()),
+        Ok(Decoded::Clear(t, a)) => Obeyed::Answered(clear(
+            p, cells, remember, tables, t, a,
+        ).into()),
+        Ok(Decoded::Load(t, a, b, c)) => Obeyed::Answered(load(
+            p, cells, remember, tables, t, a, b, c,
+        ).into()),
+        Ok(Decoded::Store(t, a, b, c)) => Obeyed::Answered(store(
+            p, cells, remember, tables, chains, t, a, b, c,
+        ).into()),
+        Ok(Decoded::Read(t, a, b)) => Obeyed::Answered(read(
+            p, cells, remember, tables, t, a, b,
+        ).into()),
+        Ok(Decoded::Write(t, a, b, c)) => Obeyed::Answered(write(
+            p, cells, remember, tables, t, a, b, c,
+        ).into()),
+        Ok(Decoded::Same(t, a, b)) => Obeyed::Answered(same(
+            p, cells, remember, tables, t, a, b,
+        ).into()),
+        Ok(Decoded::Collect(t)) => Obeyed::Collects(t),
+        Err(refusal) => Obeyed::Answered(Answer::from(Err(refusal))),
     }
 }

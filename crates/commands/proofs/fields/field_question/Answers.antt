@@ -13,24 +13,16 @@ returns-then-x-eq0 c =
 pub head-head-requires : goal.head-head-requires
 head-head-requires c = omega (arith, c.cell_named.ensures, c.requires (omega arith))
 
-pub returns-then-f-field_count : goal.returns-then-f-field_count
-returns-then-f-field_count c =
+pub returns-then-field_count-f : goal.returns-then-field_count-f
+returns-then-field_count-f c =
     let args = c.args in
-    let cell = c.cell_named in
-    let if1 = c.if-x-eq0 in
     let head = c.head-head in
-    let field-count = c.field_count in
-    let if2 = c.if-f-field_count in
-    asked-fine args.kind args.cells.now args.x args.f cell.result head.result field-count.result cell.ensures head.ensures
-    field-count.ensures if1.false if2.true
+    asked-past args.kind args.cells.now args.x args.f c.cell_named.result head.result c.field_count.result c.cell_named.ensures head.ensures
+    c.field_count.ensures c.if-x-eq0.false c.if-field_count-f.true
 
 pub returns : goal.returns
 returns c =
     let args = c.args in
-    let cell = c.cell_named in
-    let if1 = c.if-x-eq0 in
     let head = c.head-head in
-    let field-count = c.field_count in
-    let if2 = c.if-f-field_count in
-    asked-past args.kind args.cells.now args.x args.f cell.result head.result field-count.result cell.ensures head.ensures
-    field-count.ensures if1.false if2.false
+    asked-fine args.kind args.cells.now args.x args.f c.cell_named.result head.result c.field_count.result c.cell_named.ensures head.ensures
+    c.field_count.ensures c.if-x-eq0.false c.if-field_count-f.false

@@ -6,4 +6,4 @@ use Rattle.commands.proofs.new.innermost.Goals as goal
 pub returns : goal.returns
 returns c =
     let args = c.args in
-    c.region_at.ensures ∙ ap (region_at args.p args.t) (c.wide.ensures ∙ c.depth-d.ensures)
+    c.region_at.ensures ∙ ap (region_at args.p args.t) c.depth-d.ensures

@@ -1,10 +1,10 @@
 -- Questions 9 and 10, then the store and question 14.
-use Rattle.std.proofs.Common.{◌≡◌, ◌^◌, ◌<◌, length, ap, ◌∙◌, arith}
-use Rattle.rules.specs.Terms.{refused}
-use Rattle.promises.proofs.Questions.{did-answer}
+use Rattle.std.proofs.Common.{refl, ◌^◌, ◌<◌, length, arith}
+use Rattle.std.proofs.lemmas.Result.{err_from_is_err_and}
 use Rattle.layout.specs.Words.{words}
 use Rattle.chains.proofs.LentChains.{chains-same}
 use Rattle.promises.specs.Reading.{whole_room}
+use Rattle.commands.specs.Decoding.{question-nonzero}
 use Rattle.commands.specs.Objects.{names-cell}
 use Rattle.commands.specs.Storing.{storing, store-refused, store-did}
 use Rattle.commands.proofs.store.store.Goals as goal
@@ -21,23 +21,24 @@ read_var-x-requires c =
       t_lt_threads = (in-range.0, in-range.1);
     }
 
-pub field_question-q-requires : goal.field_question-q-requires
-field_question-q-requires c =
+pub field_question-requires : goal.field_question-requires
+field_question-requires c =
     let args = c.args in
     let in-range = c.requires.t_lt_threads in
     let read-var = c.read_var-x in
     names-cell args.p args.cells.now args.remember.now args.tables.now c.requires.whole_for args.t args.a in-range.0 in-range.1
     read-var.result read-var.ensures
 
-pub returns-then-q-ne0 : goal.returns-then-q-ne0
-returns-then-q-ne0 c =
+pub returns-in_err-field_question : goal.returns-in_err-field_question
+returns-in_err-field_question c =
     let args = c.args in
     let in-range = c.requires.t_lt_threads in
     let read-var = c.read_var-x in
-    let field-question = c.field_question-q in record {
-      does = did-answer c.refused.ensures
+    let err = c.in_err-field_question in
+    let exit = err_from_is_err_and c.from_residual.result c.from_residual.ensures.1 in record {
+      does = rw (exit.1, exit.2)
           (store-refused args.p args.cells.now args.remember.now args.tables.now c.requires.whole_for args.t args.a in-range.0 in-range.1
-          read-var.result read-var.ensures args.c in-range.2 args.f field-question.result field-question.ensures c.if-q-ne0.true);
+          read-var.result read-var.ensures args.c in-range.2 args.f _ err.ensures (question-nonzero err.field-0.0));
       chains_after = chains-same c.requires.chains_whole;
     }
 
@@ -49,31 +50,31 @@ read_var-v-requires c =
       t_lt_threads = (in-range.0, in-range.2);
     }
 
-pub store_slot-number-requires : goal.store_slot-number-requires
-store_slot-number-requires c =
+pub store_slot-requires : goal.store_slot-requires
+store_slot-requires c =
     let args = c.args in
     let in-range = c.requires.t_lt_threads in
     let read-var = c.read_var-x in
-    let field-question = c.field_question-q in record {
+    let field-question = c.in_ok-field_question in record {
       storing = storing args.p args.cells.now args.remember.now args.tables.now c.requires.whole_for args.t args.a in-range.0 in-range.1
-          read-var.result read-var.ensures args.c in-range.2 args.f field-question.result field-question.ensures (omega arith)
-          (fits (goal.at.store_slot-number-requires c).After-slice_known-3-1) c.read_var-v.result c.read_var-v.ensures;
+          read-var.result read-var.ensures args.c in-range.2 args.f 0 field-question.ensures refl
+          (fits (goal.at.store_slot-requires c).After-slice_known-3-1) c.read_var-v.result c.read_var-v.ensures;
       chains_whole = c.requires.chains_whole;
     }
 
-pub returns-then-number-ne0 : goal.returns-then-number-ne0
-returns-then-number-ne0 c =
+pub returns-in_err-store_slot : goal.returns-in_err-store_slot
+returns-in_err-store_slot c =
     let args = c.args in
     let in-range = c.requires.t_lt_threads in
     let read-var = c.read_var-x in
-    let field-question = c.field_question-q in
-    let read-var2 = c.read_var-v in
-    let store-slot = c.store_slot-number in record {
-      does = did-answer c.refused-then-number-ne0.ensures
+    let err = c.in_err-store_slot in
+    let residual = c.from_residual-in_err-store_slot in
+    let exit = err_from_is_err_and residual.result residual.ensures.1 in record {
+      does = rw (exit.1, exit.2)
           (store-did args.p args.cells.now args.remember.now args.tables.now c.requires.whole_for args.t args.a in-range.0 in-range.1
-          read-var.result read-var.ensures args.c in-range.2 args.f field-question.result field-question.ensures (omega arith)
-          read-var2.result read-var2.ensures _ _ store-slot.result store-slot.ensures.stored);
-      chains_after = store-slot.ensures.chains_after;
+          read-var.result read-var.ensures args.c in-range.2 args.f 0 c.in_ok-field_question.ensures refl
+          c.read_var-v.result c.read_var-v.ensures _ _ _ err.ensures.stored);
+      chains_after = c.store_slot.ensures.chains_after;
     }
 
 pub returns : goal.returns
@@ -81,13 +82,9 @@ returns c =
     let args = c.args in
     let in-range = c.requires.t_lt_threads in
     let read-var = c.read_var-x in
-    let field-question = c.field_question-q in
-    let read-var2 = c.read_var-v in
-    let store-slot = c.store_slot-number in
-    let none : 0 ≡ store-slot.result = omega arith in record {
-      does = did-answer (c.done.ensures ∙ ap refused none)
-          (store-did args.p args.cells.now args.remember.now args.tables.now c.requires.whole_for args.t args.a in-range.0 in-range.1
-          read-var.result read-var.ensures args.c in-range.2 args.f field-question.result field-question.ensures (omega arith)
-          read-var2.result read-var2.ensures _ _ store-slot.result store-slot.ensures.stored);
-      chains_after = store-slot.ensures.chains_after;
+    let slot = c.in_ok-store_slot in record {
+      does = store-did args.p args.cells.now args.remember.now args.tables.now c.requires.whole_for args.t args.a in-range.0 in-range.1
+          read-var.result read-var.ensures args.c in-range.2 args.f 0 c.in_ok-field_question.ensures refl
+          c.read_var-v.result c.read_var-v.ensures _ _ 0 slot.ensures.stored;
+      chains_after = slot.ensures.chains_after;
     }

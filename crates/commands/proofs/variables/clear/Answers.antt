@@ -1,6 +1,5 @@
 -- A variable becomes null.
 use Rattle.std.proofs.Common.{arith}
-use Rattle.promises.proofs.Questions.{did-answer}
 use Rattle.layout.specs.Words.{words}
 use Rattle.pages.specs.Noted.{none-freed-before}
 use Rattle.commands.specs.ThreadVariables.{variable_at, variable-low}
@@ -19,8 +18,7 @@ pub returns : goal.returns
 returns c =
     let args = c.args in
     let write-var = c.write_var in record {
-      does = did-answer c.done.ensures
-          (clear-done args.p args.cells.now args.remember.now args.tables.now c.requires.whole_for args.t args.a c.requires.t_lt_threads.0 c.requires.t_lt_threads.1
-          write-var.ensures);
+      does = clear-done args.p args.cells.now args.remember.now args.tables.now c.requires.whole_for args.t args.a c.requires.t_lt_threads.0 c.requires.t_lt_threads.1
+          write-var.ensures;
       none_freed = none-freed-before args.p args.tables.now (variable_at args.p args.t args.a) _ (variable-low args.p args.t args.a c.requires.t_lt_threads.0 c.requires.t_lt_threads.1) write-var.ensures;
     }

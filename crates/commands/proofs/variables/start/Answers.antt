@@ -1,6 +1,5 @@
 -- The depth rises by one, if it is below D.
 use Rattle.std.proofs.Common.{arith}
-use Rattle.promises.proofs.Questions.{did-answer}
 use Rattle.layout.specs.Places.{depth_at, owners-is}
 use Rattle.layout.specs.Words.{words}
 use Rattle.pages.specs.Noted.{none-freed-refl, none-freed-before}
@@ -15,22 +14,19 @@ depth-d-requires c =
       k_lt_threads = c.requires.t_lt_threads;
     }
 
-pub returns-then-p-wide : goal.returns-then-p-wide
-returns-then-p-wide c =
+pub returns-then-p-d : goal.returns-then-p-d
+returns-then-p-d c =
     let args = c.args in
-    let depth = c.depth-d in
-    let wide = c.wide in record {
-      does = did-answer c.refused.ensures
-          (start-refused args.p args.cells.now args.remember.now args.tables.now c.requires.whole_for args.t c.requires.t_lt_threads depth.result depth.ensures
-          (omega (arith, wide.ensures)));
+    let depth = c.depth-d in record {
+      does = start-refused args.p args.cells.now args.remember.now args.tables.now c.requires.whole_for args.t c.requires.t_lt_threads depth.result depth.ensures
+          (omega arith);
       none_freed = none-freed-refl _ _;
     }
 
 pub overflow_add-d : goal.overflow_add-d
 overflow_add-d c =
     let args = c.args in
-    let wide = c.wide in
-    omega (arith, wide.ensures, (whole_room args.p (words args.cells.now args.remember.now args.tables.now) c.requires.whole_for (omega arith)))
+    omega (arith, (whole_room args.p (words args.cells.now args.remember.now args.tables.now) c.requires.whole_for (omega arith)))
 
 pub set_depth-requires : goal.set_depth-requires
 set_depth-requires c =
@@ -43,10 +39,8 @@ pub returns : goal.returns
 returns c =
     let args = c.args in
     let depth = c.depth-d in
-    let wide = c.wide in
     let set-depth = c.set_depth in record {
-      does = did-answer c.done.ensures
-          (start-done args.p args.cells.now args.remember.now args.tables.now c.requires.whole_for args.t c.requires.t_lt_threads depth.result depth.ensures
-          (omega (arith, wide.ensures)) set-depth.ensures);
+      does = start-done args.p args.cells.now args.remember.now args.tables.now c.requires.whole_for args.t c.requires.t_lt_threads depth.result depth.ensures
+          (omega arith) set-depth.ensures;
       none_freed = none-freed-before args.p args.tables.now (depth_at args.t) _ (omega (arith, owners-is args.p, c.requires.t_lt_threads)) set-depth.ensures;
     }
