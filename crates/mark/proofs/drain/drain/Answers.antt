@@ -1,13 +1,6 @@
-use Rattle.std.proofs.Common.{refl, sym, ◌∙◌, arith}
+use Rattle.std.proofs.Common.{sym, ◌∙◌, arith}
 use Rattle.mark.specs.Draining.{turn_facts, turn-asks, turn-read, drained}
 use Rattle.mark.proofs.drain.drain.Goals as goal
-
-pub loop-t-init : goal.loop-t-init
-loop-t-init c =
-    (refl, refl, λ W T S h. h)
-
-pub cell_named-c-requires : goal.cell_named-c-requires
-cell_named-c-requires c = omega arith
 
 pub work-t-requires : goal.work-t-requires
 work-t-requires c =
@@ -54,14 +47,6 @@ loop-t-preserved c =
       k.tables-length ∙ sym k₀.tables-length,
       λ W T S h. turn-read (loop.invariant.2 W T S h).1 loop-test.true cell-named.result cell-named.ensures set-work.ensures work.ensures scan.ensures,
     )
-
-pub shape_of-cells : goal.shape_of-cells
-shape_of-cells c =
-    c.loop-t.invariant.0
-
-pub shape_of-tables : goal.shape_of-tables
-shape_of-tables c =
-    c.loop-t.invariant.1
 
 pub returns : goal.returns
 returns c =

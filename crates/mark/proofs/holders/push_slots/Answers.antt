@@ -1,14 +1,9 @@
 use Rattle.std.proofs.Common.{refl, ◌∙◌, ◌<◌, arith}
 use Rattle.chains.proofs.Walking.{ahead-less, whole_long}
 use Rattle.mark.specs.Pushes.{pushing-kept, pushing-shaped, ref-read, push-read}
-use Rattle.mark.specs.Holders.{slot-low, slot-held-ref, kept-slot-held}
-use Rattle.mark.specs.Along.{along-start, along-low, along-region, along-here, along-all, leads-on, along-next}
+use Rattle.mark.specs.Holders.{slot-held-ref, kept-slot-held}
+use Rattle.mark.specs.Along.{along-start, along-low, along-here, along-all, leads-on, along-next}
 use Rattle.mark.proofs.holders.push_slots.Goals as goal
-
-pub last_region-last-requires : goal.last_region-last-requires
-last_region-last-requires c =
-    let s = c.requires.shaped in
-    (s.room.threads-high, s.room.depth-high)
 
 pub first-x-requires : goal.first-x-requires
 first-x-requires c =
@@ -17,21 +12,6 @@ first-x-requires c =
 pub loop-x-init : goal.loop-x-init
 loop-x-init c =
     (refl, refl, along-start c.requires.holding.remember.entries.room c.requires.chains_whole c.requires.le_r.0 c.requires.le_r.1 refl c.first-x.ensures)
-
-pub overflow_sub-i : goal.overflow_sub-i
-overflow_sub-i c = omega (arith, c.loop-x-test.true)
-
-pub slot_for-y-requires : goal.slot_for-y-requires
-slot_for-y-requires c =
-    let loop = c.loop-x in
-    let a = loop.invariant.2 in
-    let pos : 0 < loop.x = omega (arith, c.loop-x-test.true) in
-    let lt = along-low a pos refl in
-    let s = pushing-shaped c.requires.shaped a.pushed in record {
-      room = s.room;
-      p_in_bounds = (s.cells-long, c.requires.holding.long);
-      i_lt_entries = (omega (arith, lt, c.requires.holding.remember.entries.room), slot-low c.requires.holding _ lt, along-region a pos refl);
-    }
 
 pub push-t-requires : goal.push-t-requires
 push-t-requires c =
@@ -72,12 +52,6 @@ loop-x-preserved c =
     let h = push-read c.requires.shaped (along-here a pos refl) (slot-held-ref c.requires.shaped c.requires.holding _ _ _ lt) slot-for.result (slot-for.ensures ∙ kept-slot-held k c.requires.shaped.room c.requires.holding _ _ _ lt) c.push-t.ensures in
     let k' = pushing-kept c.requires.shaped h in
     (k'.cells-length, k'.tables-length, along-next c.requires.holding.remember.entries.room c.requires.chains_whole a pos refl c.last_region-last.ensures c.next-x.ensures h)
-
-pub shape_of-cells : goal.shape_of-cells
-shape_of-cells c = c.loop-x.invariant.0
-
-pub shape_of-tables : goal.shape_of-tables
-shape_of-tables c = c.loop-x.invariant.1
 
 pub returns : goal.returns
 returns c = along-all c.loop-x.invariant.2 (omega (arith, c.loop-x-test.false))

@@ -1,4 +1,4 @@
-use Rattle.std.proofs.Common.{◌≡◌, refl, ◌∙◌, subst, ℕ, ◌<◌, ◌+◌, arith}
+use Rattle.std.proofs.Common.{◌≡◌, refl, ◌∙◌, subst, ◌<◌, ◌+◌, arith}
 use Rattle.mark.specs.Pushes.{Pushing, Pushing.none, pushing-nulls, pushing-kept, pushing-shaped, ref-read, push-read}
 use Rattle.layout.specs.Places.{var_count}
 use Rattle.mark.specs.Holders.{var_held, var-held-ref, var-elsewhere, kept-var-held}
@@ -11,18 +11,9 @@ returns-then-g-outer c =
     subst (Pushing a.p a.r (var_held a.p a.tables.now a.thread a.outer a.g) a.cells.now a.tables.now a.top a.cells.now a.tables.now a.top) e
     (pushing-nulls none (var_count a.p) (λ i l h. var-elsewhere a.p a.tables.now a.thread a.outer a.g c.if-g-ne1.true c.if-g-outer.true i))
 
-pub var_count-i-end-requires : goal.var_count-i-end-requires
-var_count-i-end-requires c = (c.requires.shaped.room.threads-high, c.requires.shaped.room.variables-high)
-
 pub loop-i-init : goal.loop-i-init
 loop-i-init c =
     (refl, refl, none)
-
-pub variable_for-x-requires : goal.variable_for-x-requires
-variable_for-x-requires c = record {
-  room = (pushing-shaped c.requires.shaped c.loop-i.invariant.2).room;
-  le_variables = (c.requires.by_index.1.some, omega arith, c.requires.thread_bound);
-}
 
 pub push-t-requires : goal.push-t-requires
 push-t-requires c =
@@ -46,18 +37,3 @@ loop-i-preserved c =
     let h = push-read c.requires.shaped loop.invariant.2 (var-held-ref c.requires.shaped c.requires.by_index.1 _ _ _ loop.i lt) variable-for.result (variable-for.ensures ∙ kept-var-held k c.requires.shaped.room c.requires.by_index.1 _ _ _ _ lt) c.push-t.ensures in
     let k' = pushing-kept c.requires.shaped h in
     (k'.cells-length, k'.tables-length, h)
-
-pub shape_of-cells : goal.shape_of-cells
-shape_of-cells c =
-    c.loop-i.invariant.0
-
-pub shape_of-tables : goal.shape_of-tables
-shape_of-tables c =
-    c.loop-i.invariant.1
-
-pub returns : goal.returns
-returns c =
-    let args = c.args in
-    let loop = c.loop-i in
-    let e : loop.i ≡ var_count args.p = omega arith in
-    subst (λ (f : ℕ). Pushing args.p args.r (var_held args.p args.tables.now args.thread args.outer args.g) args.cells.now args.tables.now args.top loop.cells loop.tables loop.t f) e loop.invariant.2

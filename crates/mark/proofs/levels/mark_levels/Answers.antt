@@ -1,7 +1,7 @@
-use Rattle.std.proofs.Common.{◌≡◌, refl, arith}
+use Rattle.std.proofs.Common.{refl, arith}
 use Rattle.lists.specs.Says.{says-no}
 use Rattle.mark.specs.Draining.{says-popped, says-idle}
-use Rattle.mark.specs.Levels.{levels-start, levels-at}
+use Rattle.mark.specs.Levels.{levels-start}
 use Rattle.mark.specs.Holders.{held_refs}
 use Rattle.mark.specs.Rounds.{round-shaped, round-holding, round-slots, round-pending, round-levels}
 use Rattle.mark.proofs.levels.mark_levels.Goals as goal
@@ -10,9 +10,6 @@ use Rattle.mark.proofs.levels.mark_levels.Goals.{then-drain-ne0, else-drain-ne0}
 pub loop-level-init : goal.loop-level-init
 loop-level-init c =
     (refl, refl, levels-start _ _ _ c.requires.by_index, says-no (λ m. omega (arith, c.requires.by_index m.0 m.1, m.2)))
-
-pub region_at-g-requires : goal.region_at-g-requires
-region_at-g-requires c = omega (arith, c.requires.shaped.room)
 
 pub push_variables-held-requires : goal.push_variables-held-requires
 push_variables-held-requires c =
@@ -46,13 +43,3 @@ loop-level-preserved c =
     let d = c.drain.ensures _ _ _ q in
     let n = round-levels c.requires.shaped c.requires.holding args.thread args.outer loop.invariant.2 g e d in
     (n.kept.cells-length, n.kept.tables-length, n, elim c.if-drain-ne0.branch [ then-drain-ne0 w ↦ says-popped d _ w.found-is w.if-drain-ne0.true | else-drain-ne0 w ↦ says-idle d _ _ w.found-is w.if-drain-ne0.false loop.invariant.3 ])
-
-pub shape_of-cells : goal.shape_of-cells
-shape_of-cells c = c.loop-level.invariant.0
-
-pub shape_of-tables : goal.shape_of-tables
-shape_of-tables c = c.loop-level.invariant.1
-
-pub returns : goal.returns
-returns c =
-    let e : c.loop-level.level ≡ c.args.depth = omega arith in record { levels = levels-at e c.loop-level.invariant.2; says = c.loop-level.invariant.3 }

@@ -1,9 +1,9 @@
-use Rattle.std.proofs.Common.{◌≡◌, ◌≤◌, refl, ap, ◌∙◌, subst, ℕ, ◌<◌, arith}
+use Rattle.std.proofs.Common.{◌≡◌, ◌≤◌, refl, ap, ◌∙◌, ◌<◌, arith}
 use Rattle.layout.specs.declared.Kind.TheVariants.{Reference}
-use Rattle.layout.specs.Cells.{field_of, refs_of, field_count, most_fields}
+use Rattle.layout.specs.Cells.{refs_of, field_count, most_fields}
 use Rattle.layout.specs.Objects.{begins-page}
 use Rattle.mark.specs.Marks.{shaped-few, kept_field}
-use Rattle.mark.specs.Pushes.{Pushing, Pushing.none, pushing-kept, pushing-shaped, ref-read, push-read}
+use Rattle.mark.specs.Pushes.{Pushing.none, pushing-kept, pushing-shaped, ref-read, push-read}
 use Rattle.mark.proofs.push.scan.Goals as goal
 use Rattle.mark.proofs.push.scan.Goals.{After-field_count-n}
 
@@ -44,19 +44,3 @@ loop-f-preserved c =
     let h = push-read c.requires.shaped l.invariant.2 ((c.requires.shaped.objects args.c c.requires.begins).references l.f lt) field.result (field.ensures ∙ kept_field (pushing-kept c.requires.shaped l.invariant.2) args.c l.f (omega arith)) c.push-t.ensures in
     let k = pushing-kept c.requires.shaped h in
     (k.cells-length, k.tables-length, h)
-
-pub shape_of-cells : goal.shape_of-cells
-shape_of-cells c =
-    c.loop-f.invariant.0
-
-pub shape_of-tables : goal.shape_of-tables
-shape_of-tables c =
-    c.loop-f.invariant.1
-
-pub returns : goal.returns
-returns c =
-    let args = c.args in
-    let l = c.loop-f in
-    let n = refs (goal.at.returns c).After-field_count-n in
-    let e : l.f ≡ refs_of args.cells.now args.c = omega arith in
-    subst (λ (f : ℕ). Pushing args.p args.r (field_of args.cells.now args.c) args.cells.now args.tables.now args.top l.cells l.tables l.t f) e l.invariant.2

@@ -2,15 +2,9 @@
 use Rattle.std.proofs.Common.{◌≤◌, arith}
 use Rattle.laws.specs.RegionLaws.{region-bounds}
 use Rattle.layout.specs.Words.{words}
-use Rattle.promises.specs.Reading.{whole_room}
 use Rattle.mark.specs.Reached.{whole-holding}
 use Rattle.mark.specs.Survivors.{shaped-at, clean_at, marked-at}
 use Rattle.mark.proofs.survivors.mark_survivors.Goals as goal
-
-pub region_at-outer-requires : goal.region_at-outer-requires
-region_at-outer-requires c =
-    let a = c.args in
-    omega (arith, whole_room a.p (words a.cells.now a.remember.now a.tables.now) c.requires.whole_for (omega arith), c.requires.whole_for.depths a.thread c.requires.thread_lt_threads.0, c.requires.thread_lt_threads.0, c.requires.thread_lt_threads.1)
 
 pub mark_levels-requires : goal.mark_levels-requires
 mark_levels-requires c =
@@ -26,10 +20,8 @@ mark_levels-requires c =
       le_r = omega (arith, bounds, c.requires.thread_lt_threads.3);
     }
 
-pub returns : goal.returns
-returns c =
+pub returns-clause-marked : goal.returns-clause-marked
+returns-clause-marked c =
     let a = c.args in
-    let levels = c.mark_levels in record {
-      marked = marked-at a.p (words a.cells.now a.remember.now a.tables.now) c.requires.whole_for a.thread _ _ _ c.requires.thread_lt_threads.0 (omega (arith, c.requires.thread_lt_threads.2)) c.requires.thread_lt_threads.1 c.requires.thread_lt_threads.3 c.region_at-outer.ensures levels.ensures.levels;
-      says = levels.ensures.says;
-    }
+    let levels = c.mark_levels in
+    marked-at a.p (words a.cells.now a.remember.now a.tables.now) c.requires.whole_for a.thread _ _ _ c.requires.thread_lt_threads.0 (omega (arith, c.requires.thread_lt_threads.2)) c.requires.thread_lt_threads.1 c.requires.thread_lt_threads.3 c.region_at-outer.ensures levels.ensures.levels

@@ -1,6 +1,5 @@
-use Rattle.std.proofs.Common.{ℕ, ◌<◌, refl, sym, ◌∙◌, subst, arith, get_or, length}
+use Rattle.std.proofs.Common.{ℕ, ◌<◌, refl, ◌∙◌, arith, get_or, length}
 use Rattle.lists.specs.Part.{through-start, through-turn, through-end, cut-here}
-use Rattle.layout.specs.Places.{Room}
 use Rattle.mark.specs.Unmark.{unmark-start, unmark-word, unmark-turn, unmark-skips}
 use Rattle.mark.proofs.unmark.unmark.Goals as goal
 use Rattle.mark.proofs.unmark.unmark.Goals.{In-loop-page}
@@ -17,12 +16,6 @@ loop-page-init c =
     let args = c.args in
     (refl, refl, through-start _ _ _ _ (unmark-skips _ (length args.list.now) args.list.now _ _ _ _ (omega (arith, c.requires.room)) c.requires.by_index) (unmark-start _ _ _))
 
-pub mark-requires : goal.mark-requires
-mark-requires c = record {
-  room = subst (Room c.args.p) (sym c.loop-page.invariant.1) c.requires.room;
-  page_lt_pages = low (goal.at.mark-requires c).In-loop-page;
-}
-
 pub unmark_page-requires : goal.unmark_page-requires
 unmark_page-requires c =
     let loop = c.loop-page in
@@ -30,12 +23,6 @@ unmark_page-requires c =
     let l = low at in
     let u = loop.invariant.2 (page at) (cut-here loop.page-index (page at) c.requires.rises (omega arith) refl) in
     (omega (arith, c.mark.ensures, unmark-word u, c.requires.small (page at) l), omega (arith, c.requires.room), omega (arith, c.requires.p_in_bounds, loop.invariant.0))
-
-pub set_mark-requires : goal.set_mark-requires
-set_mark-requires c = record {
-  room = subst (Room c.args.p) (sym c.loop-page.invariant.1) c.requires.room;
-  page_lt_pages = low (goal.at.set_mark-requires c).In-loop-page;
-}
 
 pub loop-page-preserved : goal.loop-page-preserved
 loop-page-preserved c =
@@ -49,12 +36,6 @@ loop-page-preserved c =
       set.auto.tables ∙ loop.invariant.1,
       through-turn _ _ _ _ _ loop.page-index (page at) c.requires.rises (omega arith) refl loop.invariant.2 (λ u. unmark-turn (omega (arith, c.requires.room, l)) c.mark.ensures u cleared set.ensures) (unmark-skips _ (length args.list.now) args.list.now _ _ _ _ (omega (arith, c.requires.room)) c.requires.by_index),
     )
-
-pub shape_of-cells : goal.shape_of-cells
-shape_of-cells c = c.loop-page.invariant.0
-
-pub shape_of-tables : goal.shape_of-tables
-shape_of-tables c = c.loop-page.invariant.1
 
 pub returns : goal.returns
 returns c = through-end _ _ _ _ c.loop-page.page-index c.requires.rises (omega arith) (omega arith) c.loop-page.invariant.2

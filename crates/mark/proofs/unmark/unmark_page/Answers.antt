@@ -1,12 +1,8 @@
-use Rattle.std.proofs.Common.{refl, arith}
+use Rattle.std.proofs.Common.{arith}
 use lib.Count.{count_trailing_zeros}
-use Rattle.lists.specs.SetBits.{walk_start, walk-lowest}
-use Rattle.mark.specs.Unmark.{page-start, page-turn, page-end}
+use Rattle.lists.specs.SetBits.{walk-lowest}
+use Rattle.mark.specs.Unmark.{page-turn, page-end}
 use Rattle.mark.proofs.unmark.unmark_page.Goals as goal
-
-pub loop-init : goal.loop-init
-loop-init c =
-    (refl, walk_start c.args.w c.requires.0, page-start _ _ _)
 
 pub cell_on-requires : goal.cell_on-requires
 cell_on-requires c =
@@ -31,10 +27,6 @@ loop-preserved c =
     let l = walk-lowest loop.invariant.1 (omega arith) in
     let t = page-turn (count_trailing_zeros 32 loop.left) cell-on.result c.without_bit-left.result _ (cell-on.ensures) c.requires.2 loop.invariant.1 l loop.invariant.2 c.set_work.ensures c.without_bit-left.ensures in
     (t.1.cells-length, t.0, t.1)
-
-pub shape_of-cells : goal.shape_of-cells
-shape_of-cells c =
-    c.loop.invariant.0
 
 pub returns : goal.returns
 returns c =
