@@ -24,9 +24,10 @@ pub fn next_page(p: Sizes, tables: &[u32], notes: &mut [u32], region: u32, page:
     ensures noted_2 { Noted p tables.now notes.new }
 {
     if layout::tables::used(p, tables, page) < layout::cells::CELLS as u32 {
-        return page;
+        page
+    } else {
+        pages::page_for(p, tables, notes, region).unwrap()
     }
-    pages::page_for(p, tables, notes, region)
 }
 
 // The words of one cell go to another, with word 1 zero; word 1 of the old cell becomes the reference to the new one.
@@ -115,7 +116,10 @@ pub fn copy_pass(
     ensures pass { Pass p region (λ c. page_of c < p.pages) (order region 0) (order region (first_on p.pages)) cells.old tables.old cells.new tables.new }
     ensures noted_2 { Noted p tables.new notes.new }
 {
-    let mut at = pages::page_for(p, tables, notes, region);
+    // Where no page is found nobody goes to the region.
+    let Some(mut at) = pages::page_for(p, tables, notes, region) else {
+        return;
+    };
     for page in list {
         at = copy_page(p, cells, tables, notes, region, *page as usize, at);
     }
