@@ -4,7 +4,7 @@ use Rattle.std.proofs.Common.{arith, ℕ, List, ◌≡◌, sym, subst}
 use Rattle.rules.specs.declared.Sizes.{Sizes}
 use Rattle.layout.specs.Places.{entries_used}
 use Rattle.chains.proofs.Walking.{whole_long}
-use Rattle.settle.specs.Update.{Settles, Updated, settles-table, settle-asks, settles-appended, settles-updated}
+use Rattle.settle.specs.Update.{Settles, Updated, settle-asks, settles-appended, settles-updated}
 use Rattle.settle.specs.Renew.{passed, renew-ask}
 use Rattle.settle.proofs.settle.Goals as goal
 use Rattle.settle.proofs.settle.Goals.{After-order_entries}
@@ -19,56 +19,22 @@ updated c =
     subst (λ (y : ℕ). Updated a.p a.region a.p.entries y c.settle_copies-all.new.cells a.remember.now a.tables.now c.order_entries.new.remember) c.used-used.ensures
     (settles-updated (settles c.requires.settles c.used-used.ensures) c.filter_entries-kept.ensures.added c.filter_entries-kept.ensures.rising c.settle_copies-all.ensures c.close_entries.ensures c.order_entries.ensures)
 
-pub used-used-requires : goal.used-used-requires
-used-used-requires c = omega (arith, c.requires.settles.entries.long)
-
-pub first_own-own-requires : goal.first_own-own-requires
-first_own-own-requires c = record {
-  table = settles-table c.requires.settles;
-  rises = c.requires.lists.rises;
-  entries_bound = (c.requires.settles.wiring.tables-long.entries-high, c.requires.settles.wiring.tables-long.few);
-}
-
 pub first_touched-from-requires : goal.first_touched-from-requires
 first_touched-from-requires c =
     let k = c.requires.chained in
     (k.low, omega (arith, k.high, whole_long k.chainable.room k.whole))
 
-pub filter_entries-kept-requires : goal.filter_entries-kept-requires
-filter_entries-kept-requires c = record {
-  entries = (settles c.requires.settles c.used-used.ensures).entries;
-  room = c.requires.settles.wiring.tables-long;
-  from_le_used = omega (arith, c.used-used.ensures, c.first_own-own.ensures.upper_bound, c.first_touched-from.ensures.upper_bound);
-  unchanged = passed c.requires.settles c.requires.chained c.requires.lists c.first_own-own.ensures.upper_bound c.first_own-own.ensures.not_own (omega (arith, c.first_touched-from.ensures.upper_bound)) c.first_touched-from.ensures.upper_bound_2 c.args.cells.now;
-}
+pub filter_entries-kept-requires-clause-unchanged : goal.filter_entries-kept-requires-clause-unchanged
+filter_entries-kept-requires-clause-unchanged c = passed c.requires.settles c.requires.chained c.requires.lists c.first_own-own.ensures.upper_bound c.first_own-own.ensures.not_own (omega (arith, c.first_touched-from.ensures.upper_bound)) c.first_touched-from.ensures.upper_bound_2 c.args.cells.now
 
-pub settle_copies-all-requires : goal.settle_copies-all-requires
-settle_copies-all-requires c = record {
-  wiring = c.requires.settles.wiring;
-  settling = settle-asks (settles c.requires.settles c.used-used.ensures) c.filter_entries-kept.ensures.added;
-  rises = c.requires.lists.rises;
-  by_index = c.requires.by_index;
-}
+pub settle_copies-all-requires-clause-settling : goal.settle_copies-all-requires-clause-settling
+settle_copies-all-requires-clause-settling c = settle-asks (settles c.requires.settles c.used-used.ensures) c.filter_entries-kept.ensures.added
 
-pub close_entries-requires : goal.close_entries-requires
-close_entries-requires c =
-    let e = (settles c.requires.settles c.used-used.ensures).entries in record {
-      entries_bound = (omega (arith, c.requires.settles.wiring.tables-long.entries-high), c.settle_copies-all.ensures.added.low, e.few);
-      entries_in_bounds = omega (arith, e.long, c.settle_copies-all.auto.remember, c.filter_entries-kept.auto.remember);
-    }
-
-pub order_entries-requires : goal.order_entries-requires
-order_entries-requires c = record {
-  gathered = (settles-appended (settles c.requires.settles c.used-used.ensures) c.filter_entries-kept.ensures.added c.filter_entries-kept.ensures.rising c.settle_copies-all.ensures c.close_entries.ensures).gathered;
-  entries_bound = c.requires.settles.wiring.tables-long.entries-high;
-}
+pub order_entries-requires-clause-gathered : goal.order_entries-requires-clause-gathered
+order_entries-requires-clause-gathered c = (settles-appended (settles c.requires.settles c.used-used.ensures) c.filter_entries-kept.ensures.added c.filter_entries-kept.ensures.rising c.settle_copies-all.ensures c.close_entries.ensures).gathered
 
 pub renew_chains-requires : goal.renew_chains-requires
 renew_chains-requires c = (c.args.remember.now, renew-ask c.requires.settles c.requires.chained c.requires.lists c.first_own-own.ensures.upper_bound c.first_own-own.ensures.not_own (omega (arith, c.first_touched-from.ensures.upper_bound)) c.first_touched-from.ensures.upper_bound_2 c.used-used.ensures (updated (goal.at.renew_chains-requires c).After-order_entries))
 
-pub returns : goal.returns
-returns c = record {
-  rewritten = c.settle_copies-all.ensures.rewritten;
-  updated = updated (goal.at.returns c).After-order_entries;
-  chains_after = c.renew_chains.ensures;
-}
+pub returns-clause-updated : goal.returns-clause-updated
+returns-clause-updated c = updated (goal.at.returns-clause-updated c).After-order_entries

@@ -3,10 +3,9 @@ use mathlib.Core.Path.{subst₃}
 use Rattle.layout.specs.Places.{owner_of}
 use Rattle.layout.specs.Cells.{field_count, field_of, page_of, refs_of, cell_in, field-high}
 use Rattle.layout.specs.declared.Kind.TheVariants.{Reference}
-use Rattle.layout.specs.Words.{Names}
 use Rattle.settle.specs.Rewrite.{forwarded}
 use Rattle.settle.specs.RewriteSlots.{Field}
-use Rattle.settle.specs.Settle.{Settled, settled-none, field-names, moved-names, field_fits, field-comes, field-stays}
+use Rattle.settle.specs.Settle.{Settled, settled-none, moved-names, field_fits, field-comes, field-stays}
 use Rattle.settle.proofs.settle_cell.Goals as goal
 use Rattle.settle.proofs.settle_cell.Goals.{then-to-ne0, else-to-ne0}
 use Rattle.settle.proofs.settle_cell.Goals.{After-forward_ref-x, In-loop-f, Then-to-ne0}
@@ -33,51 +32,20 @@ roomy c =
     (c.forward_ref-x.ensures ∙ ap (λ (x : ℕ). forwarded c.loop-f.cells x) c.field.ensures)
     (c.owner-from.ensures ∙ ap (λ (q : ℕ). owner_of c.args.p c.args.tables.now q) c.page_of.ensures) c.cross-to.ensures (λ z. omega (arith, c.if-to-ne0.true))
 
-pub head-requires : goal.head-requires
-head-requires c = cell_in c.args.p c.requires.room.few c.requires.fields.cells-long c.requires.fields.page
-
-pub owner-from-requires : goal.owner-from-requires
-owner-from-requires c = record { room = c.requires.room; page_lt_pages = omega (arith, c.requires.fields.page, c.page_of.ensures) }
-
 pub loop-f-init : goal.loop-f-init
 loop-f-init c =
     settled-none _ _ _ _ _ _ _ c.requires.settling.low (λ x q. omega (arith, q.low))
 
-pub field-requires : goal.field-requires
-field-requires c =
-    (cell_in c.args.p c.requires.room.few (omega (arith, c.requires.fields.cells-long)) c.requires.fields.page, omega (arith, lt (goal.at.field-requires c).In-loop-f, c.requires.fields.few))
-
-pub forward_ref-x-requires : goal.forward_ref-x-requires
-forward_ref-x-requires c =
-    λ ne. cell_in c.args.p c.requires.room.few (omega (arith, c.requires.fields.cells-long)) (subst (λ (x : ℕ). Names c.args.p x) (sym c.field.ensures) (field-names c.requires.fields c.requires.settling (lt (goal.at.forward_ref-x-requires c).In-loop-f) c.loop-f.invariant) ne)
-
-pub cross-to-requires : goal.cross-to-requires
-cross-to-requires c = record {
-  names = moved-names c.requires.fields c.requires.settling (lt (goal.at.cross-to-requires c).In-loop-f) c.loop-f.invariant c.forward_ref-x.result (moved (goal.at.cross-to-requires c).After-forward_ref-x);
-  room = c.requires.room;
-}
-
-pub set_field-requires : goal.set_field-requires
-set_field-requires c =
-    (cell_in c.args.p c.requires.room.few (omega (arith, c.requires.fields.cells-long)) c.requires.fields.page, omega (arith, lt (goal.at.set_field-requires c).In-loop-f, c.requires.fields.few))
-
-pub field_at-requires : goal.field_at-requires
-field_at-requires c =
-    ((cell_in c.args.p c.requires.room.few c.requires.fields.cells-long c.requires.fields.page).0, omega (arith, lt (goal.at.field_at-requires c).In-loop-f, c.requires.fields.few))
+pub cross-to-requires-clause-names : goal.cross-to-requires-clause-names
+cross-to-requires-clause-names c = moved-names c.requires.fields c.requires.settling (lt (goal.at.cross-to-requires-clause-names c).In-loop-f) c.loop-f.invariant c.forward_ref-x.result (moved (goal.at.cross-to-requires-clause-names c).After-forward_ref-x)
 
 pub overflow_cast-field_at : goal.overflow_cast-field_at
 overflow_cast-field_at c =
     let a = c.args in
     omega (arith, c.field_at.ensures, field-high a.cell c.loop-f.f (cell_in a.p c.requires.room.few c.requires.fields.cells-long c.requires.fields.page).0 (omega (arith, lt (goal.at.overflow_cast-field_at c).In-loop-f, c.requires.fields.few)))
 
-pub put_entry-requires : goal.put_entry-requires
-put_entry-requires c = record {
-  entries_in_bounds = omega (arith, c.requires.settling.long);
-  i_lt_entries = roomy (goal.at.put_entry-requires c).Then-to-ne0;
-}
-
-pub overflow_add-i : goal.overflow_add-i
-overflow_add-i c = omega (arith, roomy (goal.at.overflow_add-i c).Then-to-ne0, c.requires.room.entries-high)
+pub put_entry-requires-clause-i_lt_entries : goal.put_entry-requires-clause-i_lt_entries
+put_entry-requires-clause-i_lt_entries c = roomy (goal.at.put_entry-requires-clause-i_lt_entries c).Then-to-ne0
 
 pub loop-f-preserved : goal.loop-f-preserved
 loop-f-preserved c =

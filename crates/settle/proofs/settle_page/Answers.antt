@@ -31,9 +31,6 @@ copy : (c : goal.After-cell_named-copy) → (let l = c.loop in c.cell_named-copy
 copy c =
     c.cell_named-copy.ensures ∙ ap cell_named (c.work-forward.ensures ∙ ap (λ (x : ℕ). work_of c.loop.cells x) c.cell_on.ensures)
 
-pub mark-requires : goal.mark-requires
-mark-requires c = record { room = c.requires.wiring.tables-long; page_lt_pages = c.requires.page_lt_pages }
-
 pub loop-init : goal.loop-init
 loop-init c =
     let e = c.upper_half-copied.ensures ∙ ap (λ (x : ℕ). x / 2 ^ 16) c.mark.ensures in

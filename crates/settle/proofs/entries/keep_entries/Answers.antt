@@ -3,16 +3,10 @@ use Rattle.std.proofs.Common.{arith, ℕ, refl, sym, subst}
 use Rattle.layout.specs.Places.{entries_used}
 use Rattle.chains.proofs.Walking.{whole_long}
 use Rattle.settle.specs.Settle.{settled-none}
-use Rattle.settle.specs.Update.{Settles, Updated, settles-table, settles-kept}
+use Rattle.settle.specs.Update.{Settles, Updated, settles-kept}
 use Rattle.settle.specs.Renew.{passed, renew-ask}
 use Rattle.settle.proofs.entries.keep_entries.Goals as goal
 use Rattle.settle.proofs.entries.keep_entries.Goals.{After-close_entries, After-used-used}
-
--- by the number of entries that the code read
-settles : (c : goal.After-used-used) → (let a = c.args in Settles a.p a.region a.p.entries c.used-used.result a.cells.now a.remember.now a.tables.now)
-settles c =
-    let a = c.args in
-    subst (λ (y : ℕ). Settles a.p a.region a.p.entries y a.cells.now a.remember.now a.tables.now) (sym c.used-used.ensures) c.requires.settles
 
 updated : (c : goal.After-close_entries) → (let a = c.args in Updated a.p a.region a.p.entries (entries_used a.remember.now) a.cells.now a.remember.now a.tables.now c.close_entries.new.remember)
 updated c =
@@ -21,38 +15,16 @@ updated c =
     (settles-kept (let a = c.args in
     subst (λ (y : ℕ). Settles a.p a.region a.p.entries y a.cells.now a.remember.now a.tables.now) (sym c.used-used.ensures) c.requires.settles) c.filter_entries-kept.ensures.added c.filter_entries-kept.ensures.rising (settled-none _ _ _ _ _ _ _ c.filter_entries-kept.ensures.added.low c.requires.by_index) c.close_entries.ensures refl)
 
-pub used-used-requires : goal.used-used-requires
-used-used-requires c = omega (arith, c.requires.settles.entries.long)
-
-pub first_own-own-requires : goal.first_own-own-requires
-first_own-own-requires c = record {
-  table = settles-table c.requires.settles;
-  rises = c.requires.lists.rises;
-  entries_bound = (c.requires.settles.wiring.tables-long.entries-high, c.requires.settles.wiring.tables-long.few);
-}
-
 pub first_touched-from-requires : goal.first_touched-from-requires
 first_touched-from-requires c =
     let k = c.requires.chained in
     (k.low, omega (arith, k.high, whole_long k.chainable.room k.whole))
 
-pub filter_entries-kept-requires : goal.filter_entries-kept-requires
-filter_entries-kept-requires c = record {
-  entries = (settles (goal.at.filter_entries-kept-requires c).After-used-used).entries;
-  room = c.requires.settles.wiring.tables-long;
-  from_le_used = omega (arith, c.used-used.ensures, c.first_own-own.ensures.upper_bound, c.first_touched-from.ensures.upper_bound);
-  unchanged = passed c.requires.settles c.requires.chained c.requires.lists c.first_own-own.ensures.upper_bound c.first_own-own.ensures.not_own (omega (arith, c.first_touched-from.ensures.upper_bound)) c.first_touched-from.ensures.upper_bound_2 c.args.cells.now;
-}
-
-pub close_entries-requires : goal.close_entries-requires
-close_entries-requires c =
-    let e = (settles (goal.at.close_entries-requires c).After-used-used).entries in record {
-      entries_bound = (omega (arith, c.requires.settles.wiring.tables-long.entries-high), c.filter_entries-kept.ensures.added.low, e.few);
-      entries_in_bounds = omega (arith, e.long, c.filter_entries-kept.ensures.added.size);
-    }
+pub filter_entries-kept-requires-clause-unchanged : goal.filter_entries-kept-requires-clause-unchanged
+filter_entries-kept-requires-clause-unchanged c = passed c.requires.settles c.requires.chained c.requires.lists c.first_own-own.ensures.upper_bound c.first_own-own.ensures.not_own (omega (arith, c.first_touched-from.ensures.upper_bound)) c.first_touched-from.ensures.upper_bound_2 c.args.cells.now
 
 pub renew_chains-requires : goal.renew_chains-requires
 renew_chains-requires c = (c.args.remember.now, renew-ask c.requires.settles c.requires.chained c.requires.lists c.first_own-own.ensures.upper_bound c.first_own-own.ensures.not_own (omega (arith, c.first_touched-from.ensures.upper_bound)) c.first_touched-from.ensures.upper_bound_2 c.used-used.ensures (updated (goal.at.renew_chains-requires c).After-close_entries))
 
-pub returns : goal.returns
-returns c = record { updated = updated (goal.at.returns c).After-close_entries; chains_after = c.renew_chains.ensures }
+pub returns-clause-updated : goal.returns-clause-updated
+returns-clause-updated c = updated (goal.at.returns-clause-updated c).After-close_entries

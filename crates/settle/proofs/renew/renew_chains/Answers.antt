@@ -1,17 +1,11 @@
 -- The table was cut, or the chains are written anew.
-use Rattle.std.proofs.Common.{arith, refl, mul-le-mul}
+use Rattle.std.proofs.Common.{arith, refl}
 use Rattle.chains.proofs.Walking.{whole_long}
 use Rattle.chains.proofs.Cutting.{cut-chains}
 use Rattle.settle.proofs.renew.renew_chains.Goals as goal
 
 pub set_first-requires : goal.set_first-requires
 set_first-requires c = (c.requires.1.low, omega (arith, c.requires.1.high, whole_long c.requires.1.room c.requires.1.whole))
-
-pub overflow_add-last : goal.overflow_add-last
-overflow_add-last c = omega (arith, c.last_region-last.ensures, mul-le-mul c.requires.1.after.threads c.requires.1.after.depth, c.requires.1.few, c.requires.1.counted, c.requires.1.room, c.requires.1.after.entries)
-
-pub overflow_add-last-then-used-from : goal.overflow_add-last-then-used-from
-overflow_add-last-then-used-from c = omega (arith, c.last_region-last.ensures, mul-le-mul c.requires.1.after.threads c.requires.1.after.depth, c.requires.1.few, c.requires.1.counted, c.requires.1.room, c.requires.1.after.entries)
 
 pub clear-requires : goal.clear-requires
 clear-requires c =
@@ -24,5 +18,5 @@ returns-then-used-from c =
     cut-chains r.room r.whole (r.cut (omega (arith, c.if-own-used.true)) (omega (arith, c.used.ensures, c.if-used-from.true))) r.low r.high
     c.args.region c.set_first.ensures c.clear.ensures refl (omega arith) (omega (arith, c.last_region-last.ensures)) (omega (arith, c.last_region-last.ensures, r.counted))
 
-pub rebuild-requires : goal.rebuild-requires
-rebuild-requires c = record { chainable = c.requires.1.after; p_in_bounds = whole_long c.requires.1.room c.requires.1.whole }
+pub rebuild-requires-clause-p_in_bounds : goal.rebuild-requires-clause-p_in_bounds
+rebuild-requires-clause-p_in_bounds c = whole_long c.requires.1.room c.requires.1.whole

@@ -1,6 +1,6 @@
 -- Null and references to cells without a forward reference stay.
-use Rattle.std.proofs.Common.{length, ℕ, ◌≡◌, sym, ap, ◌∙◌, subst}
-use Rattle.layout.specs.Cells.{work_of, cell_named, CellIn}
+use Rattle.std.proofs.Common.{◌≡◌, sym, ap, ◌∙◌}
+use Rattle.layout.specs.Cells.{work_of, cell_named}
 use Rattle.settle.specs.Rewrite.{forward-null, forward-still, forward-moved}
 use Rattle.settle.proofs.rewrite.forward_ref.Goals as goal
 use Rattle.settle.proofs.rewrite.forward_ref.Goals.{After-work-forward}
@@ -12,9 +12,6 @@ word c =
 
 pub returns-then-x-eq0 : goal.returns-then-x-eq0
 returns-then-x-eq0 c = c.if-x-eq0.true ∙ sym (forward-null _ _ c.if-x-eq0.true)
-
-pub work-forward-requires : goal.work-forward-requires
-work-forward-requires c = subst (λ (y : ℕ). CellIn y (length c.args.cells.now)) (sym c.cell_named.ensures) (c.requires c.if-x-eq0.false)
 
 pub returns-then-forward-eq0 : goal.returns-then-forward-eq0
 returns-then-forward-eq0 c = sym (forward-still _ c.args.x (sym (word (goal.at.returns-then-forward-eq0 c).After-work-forward) ∙ c.if-forward-eq0.true))
