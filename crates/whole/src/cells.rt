@@ -13,7 +13,7 @@ use layout::Kind;
 use remember::crossing::cross;
 use rules::Sizes;
 
-// Whether a cell's fields are zero, the first few left out. Two are read in a turn.
+// Whether a cell's fields are zero, the first few left out. Two are read in a turn, for speed.
 pub fn zero_from(cells: &[u32], cell: usize, first: usize) -> bool
     requires { CellIn cell (length cells.now) }
     ensures { Says result (ZeroFrom cells.now cell first) }
@@ -45,53 +45,36 @@ pub fn cells_whole(p: Sizes, cells: &[u32], tables: &[u32], entries: usize) -> b
     requires entries_bound { entries < 2 ^ 32 }
     ensures { Says result (CellsCross p cells.now tables.now entries) }
 {
-    let pages = p.pages;
-    let mut ok = true;
-    let mut n: usize = 0;
-    let mut page = 0;
-    'pages: while page < pages {
-        let owner = layout::tables::owner(p, tables, page);
-        let used = layout::wide(layout::tables::used(p, tables, page));
-        let mut place = 0;
-        'cells: while place < used {
-            let cell = layout::cells::cell_on(page, place);
-            let head = layout::cells::head(cells, cell);
-            let refs = layout::cells::field_count(Kind::Reference, head);
-            let all = refs + layout::cells::field_count(Kind::Number, head);
-            if layout::cells::FIELDS < all {
-                ok = false;
-                break 'pages;
-            }
-            if layout::cells::work(cells, cell) != 0 {
-                ok = false;
-                break 'pages;
-            }
-            let mut f = 0;
-            'fields: while f < refs {
-                let x = layout::cells::field(cells, cell, f);
-                if !is_ref(p, cells, tables, x) {
-                    ok = false;
-                    break 'pages;
+    'check: {
+        let mut n: usize = 0;
+        for page in 0..p.pages {
+            let owner = layout::tables::owner(p, tables, page);
+            let used = layout::tables::used(p, tables, page) as usize;
+            for place in 0..used {
+                let cell = layout::cells::cell_on(page, place);
+                let head = layout::cells::head(cells, cell);
+                let refs = layout::cells::field_count(Kind::Reference, head);
+                let all = refs + layout::cells::field_count(Kind::Number, head);
+                if layout::cells::FIELDS < all || layout::cells::work(cells, cell) != 0 {
+                    break 'check false;
                 }
-                if 0 < cross(p, tables, owner, x) {
-                    n += 1;
-                    if entries < n {
-                        ok = false;
-                        break 'pages;
+                for f in 0..refs {
+                    let x = layout::cells::field(cells, cell, f);
+                    if !is_ref(p, cells, tables, x) {
+                        break 'check false;
+                    }
+                    if 0 < cross(p, tables, owner, x) {
+                        n += 1;
+                        if entries < n {
+                            break 'check false;
+                        }
                     }
                 }
-                f += 1;
+                if !zero_from(cells, cell, all) {
+                    break 'check false;
+                }
             }
-            if !zero_from(cells, cell, all) {
-                ok = false;
-                break 'pages;
-            }
-            place += 1;
         }
-        page += 1;
+        n == entries
     }
-    if !ok {
-        return false;
-    }
-    n == entries
 }

@@ -15,10 +15,8 @@ pub fn live_objects(p: Sizes, tables: &[u32]) -> usize
 {
     let last = layout::regions::last_region(p);
     let mut live: usize = 0;
-    let mut g = 1;
-    while g <= last {
-        live += layout::wide(layout::tables::count(p, tables, g));
-        g += 1;
+    for g in 1..=last {
+        live += layout::tables::count(p, tables, g) as usize;
     }
     live
 }
@@ -32,8 +30,5 @@ pub fn counters_whole(p: Sizes, tables: &[u32]) -> bool
 {
     let made = layout::tables::made(p, tables);
     let freed = layout::tables::freed(p, tables);
-    if layout::wide(std::num::wrapping_sub_u32(made, freed)) != live_objects(p, tables) {
-        return false;
-    }
-    true
+    std::num::wrapping_sub_u32(made, freed) as usize == live_objects(p, tables)
 }

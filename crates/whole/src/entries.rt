@@ -15,18 +15,9 @@ pub fn entry_whole(p: Sizes, cells: &[u32], remember: &[u32], tables: &[u32], i:
     requires i_lt_entries { i < p.entries }
     ensures { Says result (EntryWhole p cells.now tables.now (slot_in remember.now i) (slot_region_in p.entries remember.now i)) }
 {
-    let at = layout::wide(layout::remember::slot(p.entries, remember, i));
-    if layout::cells::words(p) <= at {
-        return false;
-    }
+    let at = layout::remember::slot(p.entries, remember, i) as usize;
     let region = layout::remember::region(p.entries, remember, i);
-    if region == 0 {
-        return false;
-    }
-    if cross_to(p, cells, tables, at) != region {
-        return false;
-    }
-    true
+    at < layout::cells::words(p) && region != 0 && cross_to(p, cells, tables, at) == region
 }
 
 pub fn named_whole(p: Sizes, cells: &[u32], remember: &[u32], tables: &[u32], used: usize) -> bool
@@ -36,12 +27,10 @@ pub fn named_whole(p: Sizes, cells: &[u32], remember: &[u32], tables: &[u32], us
     requires used_value { (used ≡ entries_used remember.now) × (used ≤ p.entries) }
     ensures { Says result (EachOf (EntryWhole p cells.now tables.now) p.entries remember.now) }
 {
-    let mut i = 0;
-    while i < used {
+    for i in 0..used {
         if !entry_whole(p, cells, remember, tables, i) {
             return false;
         }
-        i += 1;
     }
     true
 }
@@ -52,20 +41,17 @@ pub fn zero_between(entries: usize, remember: &[u32], from: usize, to: usize) ->
     requires to_le_entries { to ≤ entries }
     ensures { Says result (ZeroBetween entries remember.now from to) }
 {
-    let mut i = from;
-    while i < to {
-        if layout::remember::slot(entries, remember, i) != 0 {
+    for i in from..to {
+        if layout::remember::slot(entries, remember, i) != 0
+            || layout::remember::region(entries, remember, i) != 0
+        {
             return false;
         }
-        if layout::remember::region(entries, remember, i) != 0 {
-            return false;
-        }
-        i += 1;
     }
     true
 }
 
-// Eight entries in a turn: a stretch of known length is compiled without a loop. The first word that is not zero still ends it.
+// Eight entries in a turn, for speed: a stretch of known length is compiled without a loop. The first word that is not zero still ends it.
 pub fn rest_zero(p: Sizes, remember: &[u32], used: usize) -> bool
     requires p_in_bounds { remember_words p ≤ length remember.now }
     requires used_value { (used ≡ entries_used remember.now) × (used ≤ p.entries) }
@@ -89,13 +75,11 @@ pub fn rising(p: Sizes, remember: &[u32], used: usize) -> bool
     ensures { Says result (Rising remember.now (entries_used remember.now)) }
 {
     let entries = p.entries;
-    let mut i = 1;
-    while i < used {
+    for i in 1..used {
         let before = layout::remember::slot(entries, remember, i - 1);
         if layout::remember::slot(entries, remember, i) <= before {
             return false;
         }
-        i += 1;
     }
     true
 }
@@ -106,18 +90,9 @@ pub fn entries_whole(p: Sizes, cells: &[u32], remember: &[u32], tables: &[u32]) 
     requires p_in_bounds_2 { remember_words p ≤ length remember.now }
     ensures { Says result (EntriesWhole p cells.now remember.now tables.now) }
 {
-    let used = layout::wide(layout::remember::used(remember));
-    if p.entries < used {
-        return false;
-    }
-    if !named_whole(p, cells, remember, tables, used) {
-        return false;
-    }
-    if !rising(p, remember, used) {
-        return false;
-    }
-    if !rest_zero(p, remember, used) {
-        return false;
-    }
-    true
+    let used = layout::remember::used(remember) as usize;
+    used <= p.entries
+        && named_whole(p, cells, remember, tables, used)
+        && rising(p, remember, used)
+        && rest_zero(p, remember, used)
 }

@@ -25,29 +25,14 @@ pub fn placed_whole(p: Sizes, cells: &[u32], remember: &[u32], tables: &[u32]) -
     requires sized { Sized p (words cells.now remember.now tables.now) }
     ensures { Says result (WholeFor p (words cells.now remember.now tables.now)) }
 {
-    if !pages::depths_whole(p, tables) {
-        return false;
-    }
-    if !regions::regions_whole(p, tables) {
-        return false;
-    }
-    if !counters::counters_whole(p, tables) {
-        return false;
-    }
-    if !variables::variables_whole(p, cells, tables) {
-        return false;
-    }
-    let used = layout::wide(layout::remember::used(remember));
-    if !cells::cells_whole(p, cells, tables, used) {
-        return false;
-    }
-    if !unused::unused_whole(p, cells, tables) {
-        return false;
-    }
-    if !entries::entries_whole(p, cells, remember, tables) {
-        return false;
-    }
-    true
+    let used = layout::remember::used(remember) as usize;
+    pages::depths_whole(p, tables)
+        && regions::regions_whole(p, tables)
+        && counters::counters_whole(p, tables)
+        && variables::variables_whole(p, cells, tables)
+        && cells::cells_whole(p, cells, tables, used)
+        && unused::unused_whole(p, cells, tables)
+        && entries::entries_whole(p, cells, remember, tables)
 }
 
 pub fn whole(cells: &[u32], remember: &[u32], tables: &[u32]) -> bool
@@ -57,8 +42,5 @@ pub fn whole(cells: &[u32], remember: &[u32], tables: &[u32]) -> bool
         return false;
     }
     let p = layout::read_sizes(tables);
-    if !placed_whole(p, cells, remember, tables) {
-        return false;
-    }
-    true
+    placed_whole(p, cells, remember, tables)
 }

@@ -13,13 +13,10 @@ pub fn depths_whole(p: Sizes, tables: &[u32]) -> bool
     requires { Room p (length tables.now) }
     ensures { Says result (DepthsWhole p (tables_only tables.now)) }
 {
-    let threads = p.threads;
-    let mut k = 0;
-    while k < threads {
-        if p.depth < layout::wide(layout::tables::depth(p, tables, k)) {
+    for k in 0..p.threads {
+        if p.depth < layout::tables::depth(p, tables, k) as usize {
             return false;
         }
-        k += 1;
     }
     true
 }
@@ -33,14 +30,8 @@ pub fn is_open(p: Sizes, tables: &[u32], g: usize) -> bool
         return false;
     }
     let thread = layout::regions::thread_of(p, g);
-    if p.threads <= thread {
-        return false;
-    }
-    let depth = layout::wide(layout::tables::depth(p, tables, thread));
-    if depth < layout::regions::level_of(p, g) {
-        return false;
-    }
-    true
+    thread < p.threads
+        && layout::regions::level_of(p, g) <= layout::tables::depth(p, tables, thread) as usize
 }
 
 pub fn page_whole(p: Sizes, tables: &[u32], page: usize) -> bool
@@ -51,25 +42,10 @@ pub fn page_whole(p: Sizes, tables: &[u32], page: usize) -> bool
     if layout::tables::mark(p, tables, page) != 0 {
         return false;
     }
-    let owner = layout::wide(layout::tables::owner(p, tables, page));
-    let used = layout::wide(layout::tables::used(p, tables, page));
+    let owner = layout::tables::owner(p, tables, page) as usize;
+    let used = layout::tables::used(p, tables, page) as usize;
     if owner == 0 {
-        if used != 0 {
-            return false;
-        }
-        return true;
+        return used == 0;
     }
-    if used < 1 {
-        return false;
-    }
-    if layout::cells::CELLS < used {
-        return false;
-    }
-    if owner == 1 {
-        return true;
-    }
-    if !is_open(p, tables, owner) {
-        return false;
-    }
-    true
+    1 <= used && used <= layout::cells::CELLS && (owner == 1 || is_open(p, tables, owner))
 }

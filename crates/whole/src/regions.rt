@@ -13,17 +13,15 @@ pub fn regions_whole(p: Sizes, tables: &[u32]) -> bool
     requires { Room p (length tables.now) }
     ensures { Says result (RegionsWhole p tables.now) }
 {
-    let pages = p.pages;
     let mut objects: [usize; 130] = [0; 130];
     let mut partly = [false; 130];
-    let mut page = 0;
-    while page < pages {
+    for page in 0..p.pages {
         if !page_whole(p, tables, page) {
             return false;
         }
-        let owner = layout::wide(layout::tables::owner(p, tables, page));
+        let owner = layout::tables::owner(p, tables, page) as usize;
         if owner != 0 {
-            let used = layout::wide(layout::tables::used(p, tables, page));
+            let used = layout::tables::used(p, tables, page) as usize;
             if used < layout::cells::CELLS {
                 if partly[owner] {
                     return false;
@@ -32,15 +30,12 @@ pub fn regions_whole(p: Sizes, tables: &[u32]) -> bool
             }
             objects[owner] += used;
         }
-        page += 1;
     }
     let last = layout::regions::last_region(p);
-    let mut g = 1;
-    while g <= last {
-        if layout::wide(layout::tables::count(p, tables, g)) != objects[g] {
+    for g in 1..=last {
+        if layout::tables::count(p, tables, g) as usize != objects[g] {
             return false;
         }
-        g += 1;
     }
     true
 }

@@ -7,28 +7,15 @@ ghost use Rattle.layout.specs.Words.{words};
 pub fn sizes_whole(cells: &[u32], remember: &[u32], tables: &[u32]) -> bool
     ensures { Says result (Sized (sizes_at tables.now) (words cells.now remember.now tables.now)) }
 {
-    if tables.len() < 5 {
-        return false;
-    }
-    if remember.len() < 2 {
+    if tables.len() < 5 || remember.len() < 2 {
         return false;
     }
     let s = layout::read_sizes(tables);
     if !layout::in_range(s) {
         return false;
     }
-    let n = layout::wide(layout::remember::entries(remember));
-    if n != s.entries {
-        return false;
-    }
-    if cells.len() < layout::lengths::cells_words(s) {
-        return false;
-    }
-    if remember.len() < layout::lengths::remember_words(s) {
-        return false;
-    }
-    if tables.len() < layout::lengths::tables_words(s) {
-        return false;
-    }
-    true
+    layout::remember::entries(remember) as usize == s.entries
+        && layout::lengths::cells_words(s) <= cells.len()
+        && layout::lengths::remember_words(s) <= remember.len()
+        && layout::lengths::tables_words(s) <= tables.len()
 }

@@ -15,10 +15,8 @@ pub fn zero_cell(cells: &[u32], cell: usize) -> bool
     ensures { Says result (ZeroCell cells.now cell) }
 {
     let mut x: u32 = 0;
-    let mut i: usize = 0;
-    while i < layout::cells::WORDS {
+    for i in 0..layout::cells::WORDS {
         x |= layout::cells::word(cells, cell, i);
-        i += 1;
     }
     x == 0
 }
@@ -28,12 +26,10 @@ pub fn zero_cells(cells: &[u32], page: usize, first: usize) -> bool
     requires { (page < 1024) × (head_at (cell_on page page_cells) ≤ length cells.now) }
     ensures { Says result (ZeroCells cells.now page first) }
 {
-    let mut place = first;
-    while place < layout::cells::CELLS {
+    for place in first..layout::cells::CELLS {
         if !zero_cell(cells, layout::cells::cell_on(page, place)) {
             return false;
         }
-        place += 1;
     }
     true
 }
@@ -44,14 +40,11 @@ pub fn unused_whole(p: Sizes, cells: &[u32], tables: &[u32]) -> bool
     requires p_in_bounds { cells_words p ≤ length cells.now }
     ensures { Says result (UnusedWhole p (words cells.now [] tables.now)) }
 {
-    let pages = p.pages;
-    let mut page = 0;
-    while page < pages {
-        let used = layout::wide(layout::tables::used(p, tables, page));
+    for page in 0..p.pages {
+        let used = layout::tables::used(p, tables, page) as usize;
         if !zero_cells(cells, page, used) {
             return false;
         }
-        page += 1;
     }
     true
 }

@@ -17,27 +17,17 @@ pub fn is_ref(p: Sizes, cells: &[u32], tables: &[u32], x: u32) -> bool
     }
     let cell = layout::cells::cell_named(x);
     let page = layout::cells::page_of(cell);
-    if p.pages <= page {
-        return false;
-    }
-    let used = layout::wide(layout::tables::used(p, tables, page));
-    if used <= layout::cells::place_of(cell) {
-        return false;
-    }
-    true
+    page < p.pages && layout::cells::place_of(cell) < layout::tables::used(p, tables, page) as usize
 }
 
 pub fn variables_whole(p: Sizes, cells: &[u32], tables: &[u32]) -> bool
     requires { Room p (length tables.now) }
     ensures { Says result (VariablesWhole p (words cells.now [] tables.now)) }
 {
-    let end = layout::tables::var_count(p);
-    let mut i = 0;
-    while i < end {
+    for i in 0..layout::tables::var_count(p) {
         if !is_ref(p, cells, tables, layout::tables::var(p, tables, i)) {
             return false;
         }
-        i += 1;
     }
     true
 }
