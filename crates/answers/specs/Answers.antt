@@ -9,8 +9,7 @@ use Rattle.chains.specs.Chains.{ChainsWhole}
 use Rattle.promises.specs.Slices.{Slices}
 use Rattle.promises.specs.StandsFor.{StandsFor}
 use Rattle.promises.specs.Promises.{commands_in}
-use Rattle.script.specs.declared.Line.{Line}
-use Rattle.script.specs.declared.Line.TheVariants.{Numbers}
+use Rattle.script.specs.Text.{Line, numbers, malformed_line}
 use Rattle.script.specs.Writing.{Put}
 use Rattle.printed.specs.Printed.{running, answer_text}
 use Rattle.lines.specs.Lines.{Lent, LinesChange}
@@ -23,7 +22,7 @@ pub record Counted (used : ℕ) (block out : List ℕ) : Type 0 where
   pub text-room : 22 * (used / 5) ≤ length out
 
 abbrev pub as_line : Command → Line
-as_line m = Numbers m.code m.thread m.a m.b m.c
+as_line m = numbers m.code m.thread m.a m.b m.c
 
 unfoldable pub answers_text : List Answer → List ℕ
 answers_text [] = []

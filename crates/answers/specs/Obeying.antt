@@ -13,8 +13,7 @@ use Rattle.rules.specs.Rules as ru
 use Rattle.rules.specs.Rules.{Regioned}
 use Rattle.promises.specs.Slices.{Slices}
 use Rattle.promises.specs.Promises.{command_at, size, commands_in}
-use Rattle.script.specs.declared.Line.{Line}
-use Rattle.script.specs.declared.Line.TheVariants.{Malformed}
+use Rattle.script.specs.Text.{Line, numbers, malformed_line}
 use Rattle.script.specs.declared.Reader.{Reader}
 use Rattle.script.specs.declared.Filled.{Filled}
 use Rattle.script.specs.declared.Filled.TheVariants.{Done, Full, Broken}
@@ -189,7 +188,7 @@ module _ {r : Reader} {text : List ℕ} {from : ℕ} {x : Filled} {block : List 
         → Feeds (machine r (running s h line)) bytes l out (record { stage = Stopped; length = stop }) last l'
     unfolding feed feed_prints takes_all prints_all takes prints stage_of Holds Follow LinesChange LineChanges
     obeyed-broken e room b p =
-        let f : (rest : List Line) × (k.after ≡ Malformed ∷ rest) = subst (λ (y : Filled). Follow y text k.after (left r bytes)) e k.follow in
+        let f : (rest : List Line) × (k.after ≡ malformed_line ∷ rest) = subst (λ (y : Filled). Follow y text k.after (left r bytes)) e k.follow in
         let t : takes_all (running s h line) (found r bytes) ≡ stopped = session-is ∙ ap (takes_all (running s (ru.run s h ms).last (line + used / 5))) f.1 ∙ stopped-takes f.0 in
         record {
           is_at = record {
@@ -200,7 +199,7 @@ module _ {r : Reader} {text : List ℕ} {from : ℕ} {x : Filled} {block : List 
           text = put-text (sym (text-is ∙ ap (λ (ls : List Line). answers_text (ru.run s h ms).answers ++ prints_all (running s (ru.run s h ms).last (line + used / 5)) ls) f.1 ∙ ap (λ (ls : List ℕ). answers_text (ru.run s h ms).answers ++ (line_line (line + used / 5) ++ ls)) (stopped-prints f.0) ∙ ap (λ (ls : List ℕ). answers_text (ru.run s h ms).answers ++ ls) (append-nil (line_line (line + used / 5)))))
               (put-put (omega (arith, a.text.end_is, line-length (line + used / 5) b)) a.text p);
           changes = changed (subst (λ (ls : List Line). LinesChange (takes_all (running s h line) (map as_line ms)) ls l' l') (sym f.1)
-              (subst (λ (y : Session). LinesChange y (Malformed ∷ f.0) l' l') (sym (takes-commands s ms h line)) (l', refl, changes-stopped f.0 l')));
+              (subst (λ (y : Session). LinesChange y (malformed_line ∷ f.0) l' l') (sym (takes-commands s ms h line)) (l', refl, changes-stopped f.0 l')));
         }
 
     -- so the piece goes on as the code does after its block

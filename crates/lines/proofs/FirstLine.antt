@@ -14,8 +14,8 @@ use Rattle.promises.specs.Slices.{Slices}
 use Rattle.promises.specs.Promises as pr
 use Rattle.promises.specs.Promises.{LongEnough, PrepareAsked, out_of_range, short, Unused, Prepared}
 use Rattle.promises.proofs.Preparing.{prepared-is}
-use Rattle.script.specs.declared.Line.{Line}
-use Rattle.script.specs.declared.Line.TheVariants.{Numbers, Malformed}
+use Rattle.script.specs.Text.{Line, numbers, malformed_line}
+use Rattle.std.specs.Prelude.{Ok, Err}
 use Rattle.printed.specs.Printed.{sizes, between, accepted, running, stopped, takes}
 use Rattle.lines.specs.Lines.{Lent, Holds, Prepares, LineChanges, Begun}
 
@@ -87,9 +87,9 @@ long-accepted s l lent r e = record { range = r; few-pages = omega (arith, lent.
 
 -- ---- prepare
 
-module _ {l l' : Slices} {q : ℕ} (t v d p n : ℕ) (lent : Lent l) (k : Prepared (sizes t v d p n) l q l') where
+module _ {l l' : Slices} {q : ℕ} (t v d p n : ℕ) (lent : Lent l) (k : Prepared (sizes_of ns) l q l') where
   abbrev s : Sizes
-  s = sizes t v d p n
+  s = sizes_of ns
 
   not-accepted : (Accepted s → ⊥) → accepted s ≡ false
   not-accepted f = go (accepted s) refl
@@ -98,7 +98,7 @@ module _ {l l' : Slices} {q : ℕ} (t v d p n : ℕ) (lent : Lent l) (k : Prepar
       go true e = absurd (f (accepted-are s e))
       go false e = refl
 
-  refused : (q ≡ 0 → ⊥) → (Accepted s → ⊥) → Begun (Numbers t v d p n) l (eqb q 0) l'
+  refused : (q ≡ 0 → ⊥) → (Accepted s → ⊥) → Begun (Ok ns) l (eqb q 0) l'
   unfolding takes Holds LineChanges Prepares
   refused z f =
       let e : accepted s ≡ false = not-accepted f in
@@ -123,7 +123,7 @@ module _ {l l' : Slices} {q : ℕ} (t v d p n : ℕ) (lent : Lent l) (k : Prepar
         chains = omega (arith, lent.chains, e.chains);
       }
 
-  done : q ≡ 0 → Accepted s → Begun (Numbers t v d p n) l (eqb q 0) l'
+  done : q ≡ 0 → Accepted s → Begun (Ok ns) l (eqb q 0) l'
   unfolding takes Holds LineChanges Prepares
   done z a =
       let e : accepted s ≡ true = are-accepted s a in
@@ -135,15 +135,15 @@ module _ {l l' : Slices} {q : ℕ} (t v d p n : ℕ) (lent : Lent l) (k : Prepar
         changes = subst (λ (b : Bool). Prepares b s l l') (sym e) (k.unused z);
       }
 
-  pub prepared-begun : Begun (Numbers t v d p n) l (eqb q 0) l'
+  pub prepared-begun : Begun (Ok ns) l (eqb q 0) l'
   prepared-begun = go k.asked
     where
-      go : PrepareAsked s l q → Begun (Numbers t v d p n) l (eqb q 0) l'
+      go : PrepareAsked s l q → Begun (Ok ns) l (eqb q 0) l'
       go (out_of_range e f) = refused (λ (z : q ≡ 0). omega arith) (λ a. f a.range)
       go (short e r f) = refused (λ (z : q ≡ 0). omega arith) (λ a. f (accepted-long s l lent a))
       go (pr.accepted e r f) = done e (long-accepted s l lent r f)
 
-pub malformed-begun : {l : Slices} → Lent l → Begun Malformed l false l
+pub malformed-begun : {l : Slices} → Lent l → Begun malformed_line l false l
 unfolding takes Holds LineChanges
 malformed-begun lent = record { told = refl; lent = lent; holds = tt; changes = refl }
 

@@ -7,8 +7,8 @@ use Rattle.chains.specs.Chains.{ChainsWhole, with_chains}
 use Rattle.promises.specs.Slices.{Slices}
 use Rattle.promises.specs.StandsFor.{StandsFor}
 use Rattle.promises.specs.Promises.{Did, Unused}
-use Rattle.script.specs.declared.Line.{Line}
-use Rattle.script.specs.declared.Line.TheVariants.{Numbers, Malformed}
+use Rattle.script.specs.Text.{Line, numbers, malformed_line}
+use Rattle.std.specs.Prelude.{Ok, Err}
 use Rattle.printed.specs.Printed.{sizes, command, accepted, Session, opening, running, stopped, takes}
 
 -- ---- the lent slices
@@ -43,12 +43,12 @@ Prepares false s l l' = l' ≡ l
 -- a line changed the slices l to l': sizes that are accepted prepare them, a command does what it promises and the chains become those of the
 -- remember table, any other line changes none
 unfoldable pub LineChanges : Session → Line → Slices → Slices → Type 0
-LineChanges opening (Numbers t v d p n) l l' = Prepares (accepted (sizes t v d p n)) (sizes t v d p n) l l'
-LineChanges opening Malformed l l' = l' ≡ l
-LineChanges (running s h k) (Numbers code thread a b c) l l' =
-    Did s l.words (command code thread a b c) l'.words (ru.step s h (command code thread a b c)).answer
+LineChanges opening (Ok ns) l l' = Prepares (accepted (sizes_of ns)) (sizes_of ns) l l'
+LineChanges opening (Err e) l l' = l' ≡ l
+LineChanges (running s h k) (Ok ns) l l' =
+    Did s l.words (command_of ns) l'.words (ru.step s h (command_of ns)).answer
     × (l'.chains ≡ with_chains s l'.words.remember l.chains)
-LineChanges (running s h k) Malformed l l' = l' ≡ l
+LineChanges (running s h k) (Err e) l l' = l' ≡ l
 LineChanges stopped line l l' = l' ≡ l
 
 unfoldable pub LinesChange : Session → List Line → Slices → Slices → Type 0
@@ -59,8 +59,8 @@ LinesChange x (line ∷ lines) l l' = (between : Slices) × LineChanges x line l
 
 -- it has sizes that are accepted
 abbrev pub begins : Line → Bool
-begins (Numbers t v d p n) = accepted (sizes t v d p n)
-begins Malformed = false
+begins (Ok ns) = accepted (sizes_of ns)
+begins (Err e) = false
 
 -- the tables were prepared if so
 pub record Begun (line : Line) (l : Slices) (r : Bool) (l' : Slices) : Type 0 where

@@ -3,9 +3,9 @@ use Rattle.std.specs.Prelude.{ℕ, Bool, true, false, cond, ◌≡◌}
 use mathlib.Core.List.{List, [], ◌∷◌, ◌++◌, append_assoc, flatten}
 use Rattle.std.proofs.Math.Path.{refl, sym, ap}
 use Rattle.std.proofs.Common.{ap₂, ◌∙◌}
-use Rattle.script.specs.declared.Line.{Line}
+use Rattle.script.specs.Text.{Line}
 use Rattle.script.specs.declared.Reader.{Reader}
-use Rattle.std.specs.Prelude.{Option, None, Some}
+use Rattle.std.specs.Prelude.{None, Some}
 use Rattle.script.specs.Reading.{started, end_of, step_of, fresh, last_of}
 use Rattle.script.specs.TextLaws.{lastly, found, left, piecewise, reads-pieces}
 use Rattle.printed.specs.Printed.{Session, opening, takes, prints, takes_all, prints_all, ends_with, printed, stopped}

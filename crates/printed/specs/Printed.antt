@@ -1,5 +1,5 @@
 -- What the program prints for every input (01, "The program"; 02, W2), by the region rules alone: nothing here knows of words, blocks or pieces.
-use Rattle.std.specs.Prelude.{ℕ, ◌+◌, List, [], ◌∷◌, ◌++◌, Bool, cond, ◌&&◌, leb}
+use Rattle.std.specs.Prelude.{ℕ, ◌+◌, List, [], ◌∷◌, ◌++◌, Bool, cond, ◌&&◌, get_or, leb}
 use Rattle.rules.specs.declared.Sizes.{Sizes}
 use Rattle.rules.specs.declared.Command.{Command}
 use Rattle.rules.specs.declared.Answer.{Answer}
@@ -7,8 +7,8 @@ use Rattle.rules.specs.Graph.{crossing, free_pages}
 use Rattle.rules.specs.Rules.{Regioned, graph, unused, step}
 use Rattle.report.specs.declared.Row.{Row}
 use Rattle.report.specs.Report.{rows, total_of}
-use Rattle.script.specs.declared.Line.{Line}
-use Rattle.script.specs.declared.Line.TheVariants.{Numbers, Malformed}
+use Rattle.script.specs.Text.{Line}
+use Rattle.std.specs.Prelude.{Ok, Err}
 use Rattle.script.specs.Text.{text_says}
 use Rattle.script.specs.Writing.{row, sizes_line, line_line}
 
@@ -19,6 +19,13 @@ sizes threads variables depth pages entries = record { threads = threads; variab
 
 abbrev pub command : ℕ → ℕ → ℕ → ℕ → ℕ → Command
 command code thread a b c = record { code = code; thread = thread; a = a; b = b; c = c }
+
+-- by the five numbers of a line
+abbrev pub sizes_of : List ℕ → Sizes
+sizes_of ns = sizes (get_or ns 0 0) (get_or ns 1 0) (get_or ns 2 0) (get_or ns 3 0) (get_or ns 4 0)
+
+abbrev pub command_of : List ℕ → Command
+command_of ns = command (get_or ns 0 0) (get_or ns 1 0) (get_or ns 2 0) (get_or ns 3 0) (get_or ns 4 0)
 
 abbrev pub between : ℕ → ℕ → ℕ → Bool
 between low n high = leb low n && leb n high
@@ -57,18 +64,18 @@ answer_text a = row (a.number ∷ a.value ∷ [])
 
 -- a line takes the program on
 unfoldable pub takes : Session → Line → Session
-takes opening (Numbers t v d p n) = cond (accepted (sizes t v d p n)) (running (sizes t v d p n) (unused (sizes t v d p n)) 2) stopped
-takes opening Malformed = stopped
-takes (running s h k) (Numbers code thread a b c) = running s (step s h (command code thread a b c)).next (k + 1)
-takes (running s h k) Malformed = stopped
+takes opening (Ok ns) = cond (accepted (sizes_of ns)) (running (sizes_of ns) (unused (sizes_of ns)) 2) stopped
+takes opening (Err e) = stopped
+takes (running s h k) (Ok ns) = running s (step s h (command_of ns)).next (k + 1)
+takes (running s h k) (Err e) = stopped
 takes stopped l = stopped
 
 -- and it prints
 unfoldable pub prints : Session → Line → List ℕ
-prints opening (Numbers t v d p n) = cond (accepted (sizes t v d p n)) [] sizes_line
-prints opening Malformed = sizes_line
-prints (running s h k) (Numbers code thread a b c) = answer_text (step s h (command code thread a b c)).answer
-prints (running s h k) Malformed = line_line k
+prints opening (Ok ns) = cond (accepted (sizes_of ns)) [] sizes_line
+prints opening (Err e) = sizes_line
+prints (running s h k) (Ok ns) = answer_text (step s h (command_of ns)).answer
+prints (running s h k) (Err e) = line_line k
 prints stopped l = []
 
 unfoldable pub takes_all : Session → List Line → Session

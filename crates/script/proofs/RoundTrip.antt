@@ -4,8 +4,7 @@ use Rattle.std.proofs.Common.{append-nil, ap, ◌∙◌, arith, pow-suc, ne_eqb,
 use Rattle.std.proofs.Math.Bool.{◌&&◌}
 use Rattle.std.proofs.Math.Path.{ap₂}
 use Rattle.lists.specs.Tests.{both_true}
-use Rattle.script.specs.declared.Line.{Line}
-use Rattle.script.specs.declared.Line.TheVariants.{Numbers, Malformed}
+use Rattle.script.specs.Text.{Line, numbers, malformed_line}
 use Rattle.script.specs.Text.{onto, lines, parts, is_digit, digits_only, value_from, value, some, is_number, numbers_only, parts_say, says, text_says}
 use Rattle.script.specs.Writing.{spelt, decimal, row}
 use Rattle.script.proofs.WritingLaws.{power-above}
@@ -120,17 +119,17 @@ module _ (a b c d e : ℕ) (la : a < 4_294_967_296) (lb : b < 4_294_967_296) (lc
       ap₂ ◌&&◌ (decimal-number a la)
       (ap₂ ◌&&◌ (decimal-number b lb) (ap₂ ◌&&◌ (decimal-number c lc) (ap₂ ◌&&◌ (decimal-number d ld) (ap (λ (t : Bool). t && true) (decimal-number e le)))))
 
-  five-say : parts_say (map decimal (a ∷ b ∷ c ∷ d ∷ e ∷ [])) ≡ Numbers a b c d e
+  five-say : parts_say (map decimal (a ∷ b ∷ c ∷ d ∷ e ∷ [])) ≡ numbers a b c d e
   five-say =
-      ap (λ (t : Bool). cond (t && true) (Numbers (value (decimal a)) (value (decimal b)) (value (decimal c)) (value (decimal d)) (value (decimal e))) Malformed) five-numbers
-      ∙ (λ i. Numbers (decimal-value a i) (decimal-value b i) (decimal-value c i) (decimal-value d i) (decimal-value e i))
+      ap (λ (t : Bool). cond (t && true) (numbers (value (decimal a)) (value (decimal b)) (value (decimal c)) (value (decimal d)) (value (decimal e))) malformed_line) five-numbers
+      ∙ (λ i. numbers (decimal-value a i) (decimal-value b i) (decimal-value c i) (decimal-value d i) (decimal-value e i))
 
   -- A line of five words in decimal says these five words, with its line feed and without.
-  pub five-read : text_says (row (a ∷ b ∷ c ∷ d ∷ e ∷ [])) ≡ Numbers a b c d e ∷ []
+  pub five-read : text_says (row (a ∷ b ∷ c ∷ d ∷ e ∷ [])) ≡ numbers a b c d e ∷ []
   five-read =
       ap (map says) (row-lines a (b ∷ c ∷ d ∷ e ∷ []))
       ∙ ap (λ (ps : List (List ℕ)). parts_say ps ∷ []) (unended-parts a (b ∷ c ∷ d ∷ e ∷ []))
       ∙ ap (λ (l : Line). l ∷ []) five-say
 
-  pub five-unended : says (unended (a ∷ b ∷ c ∷ d ∷ e ∷ [])) ≡ Numbers a b c d e
+  pub five-unended : says (unended (a ∷ b ∷ c ∷ d ∷ e ∷ [])) ≡ numbers a b c d e
   five-unended = ap parts_say (unended-parts a (b ∷ c ∷ d ∷ e ∷ [])) ∙ five-say

@@ -1,6 +1,6 @@
 -- Blocks of commands from the bytes of a buffer, and the answers to a block as text.
 use Rattle.std.specs.Prelude.{ℕ, zero, suc, ◌+◌, ◌*◌, List, [], ◌∷◌, ◌++◌, cond, ◌≡◌, length, get_or, set, ltb}
-use Rattle.script.specs.declared.Line.TheVariants.{Numbers, Malformed}
+use Rattle.std.specs.Prelude.{Ok, Err}
 use Rattle.script.specs.declared.Reader.{Reader}
 use Rattle.script.specs.declared.Step.TheVariants.{More, Ended}
 use Rattle.script.specs.declared.Filled.{Filled}
@@ -9,8 +9,9 @@ use Rattle.script.specs.Reading.{started, step_of}
 use Rattle.script.specs.Writing.{row}
 
 -- five words of a block
-abbrev pub words_put : List ℕ → ℕ → ℕ → ℕ → ℕ → ℕ → ℕ → List ℕ
-words_put block n code thread a b c = set (set (set (set (set block n code) (n + 1) thread) (n + 2) a) (n + 3) b) (n + 4) c
+abbrev pub words_put : List ℕ → ℕ → List ℕ → List ℕ
+words_put block n ns =
+    set (set (set (set (set block n (get_or ns 0 0)) (n + 1) (get_or ns 1 0)) (n + 2) (get_or ns 2 0)) (n + 3) (get_or ns 3 0)) (n + 4) (get_or ns 4 0)
 
 -- The bytes that begin at a position, read into a block that has n words already: what stopped it, and the block.
 unfoldable pub filled : Reader → List ℕ → ℕ → List ℕ → ℕ → Filled × List ℕ
@@ -19,11 +20,11 @@ filled r (x ∷ xs) at block n =
     elim (step_of r x) [
       | More s ↦ filled s xs (at + 1) block n
       | Ended l ↦ elim l [
-        | Numbers code thread a b c ↦
+        | Ok ns ↦
             cond (ltb (length block) (n + 5 + 5))
-            (Full (at + 1) (n + 5), words_put block n code thread a b c)
-            (filled started xs (at + 1) (words_put block n code thread a b c) (n + 5))
-        | Malformed ↦ (Broken n, block)
+            (Full (at + 1) (n + 5), words_put block n ns)
+            (filled started xs (at + 1) (words_put block n ns) (n + 5))
+        | Err e ↦ (Broken n, block)
       ]
     ]
 

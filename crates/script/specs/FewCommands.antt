@@ -3,8 +3,8 @@ use Rattle.std.specs.Prelude.{ℕ, suc, ◌+◌, ◌*◌, ◌-◌, ◌≤◌, Li
 use Rattle.std.proofs.Common.{ap, arith, eqb-true}
 use Rattle.lists.specs.Says.{true-not-false}
 use Rattle.lists.specs.Tests.{both_true}
-use Rattle.script.specs.declared.Line.{Line}
-use Rattle.script.specs.declared.Line.TheVariants.{Numbers, Malformed}
+use Rattle.script.specs.Text.{Line, numbers, malformed_line}
+use Rattle.std.specs.Prelude.{Ok, Err}
 use Rattle.script.specs.declared.Reader.{Reader}
 use Rattle.script.specs.declared.Step.TheVariants.{More, Ended}
 use Rattle.script.specs.Text.{is_digit}
@@ -14,14 +14,14 @@ use Rattle.script.specs.TextLaws.{found}
 -- how many of these lines are five numbers
 unfoldable pub command_count : List Line → ℕ
 command_count [] = 0
-command_count (Numbers code thread a b c ∷ ls) = suc (command_count ls)
-command_count (Malformed ∷ ls) = command_count ls
+command_count (Ok ns ∷ ls) = suc (command_count ls)
+command_count (Err e ∷ ls) = command_count ls
 
 pub count-append : (ls ks : List Line) → command_count (ls ++ ks) ≡ command_count ls + command_count ks
 unfolding command_count
 count-append [] ks = omega arith
-count-append (Numbers code thread a b c ∷ ls) ks = omega (arith, count-append ls ks)
-count-append (Malformed ∷ ls) ks = count-append ls ks
+count-append (Ok ns ∷ ls) ks = omega (arith, count-append ls ks)
+count-append (Err e ∷ ls) ks = count-append ls ks
 
 -- how many bytes a line needs at least before a line feed can end it as five numbers
 unfoldable bytes_needed : Reader → ℕ
@@ -86,7 +86,7 @@ commands-needed [] r = omega (arith, needed-most r)
 commands-needed (b ∷ bs) r = go (eqb b 10) (commands-needed bs (next_of r b)) (commands-needed bs started)
   where
     ended : 10 * command_count (found started bs) + bytes_needed started ≤ length bs + 9 → (t : Bool) → (not r.malformed && (r.digits && eqb r.complete 4)) ≡ t
-        → 10 * command_count (cond t (Numbers r.first r.second r.third r.fourth r.number) Malformed ∷ found started bs) + bytes_needed r ≤ suc (length bs) + 9
+        → 10 * command_count (cond t (numbers r.first r.second r.third r.fourth r.number) malformed_line ∷ found started bs) + bytes_needed r ≤ suc (length bs) + 9
     ended k true e = omega (arith, needed-started, needed-none r e)
     ended k false e = omega (arith, needed-started, needed-most r)
 

@@ -8,8 +8,7 @@ use Rattle.std.proofs.Math.ListN.{length}
 use Rattle.std.proofs.Math.Dec.{eqb, ltb, eqb-suc-suc}
 use borrow.Author.Tests.{ne_eqb, lt-ltb, le-ltb, eqb-true, ltb-true, ltb-false}
 use Rattle.lists.specs.Tests.{both_true}
-use Rattle.script.specs.declared.Line.{Line}
-use Rattle.script.specs.declared.Line.TheVariants.{Malformed}
+use Rattle.script.specs.Text.{Line, malformed_line}
 use Rattle.script.specs.declared.Reader.{Reader}
 use Rattle.script.specs.Text.{onto, parts, is_digit, digits_only, value_from, value, some, is_number, numbers_only, numbered, parts_say, says}
 use Rattle.script.specs.ReadingCases.{spaced-bare, spaced-full, spaced-number, digited-large, digited-small}
@@ -42,9 +41,9 @@ unfolding all-good
 after r p ps =
     cond (all-good r p ps)
     (numbered (drop (length ps) (r.first ∷ r.second ∷ r.third ∷ r.fourth ∷ value_from r.number p ∷ map value ps)))
-    Malformed
+    malformed_line
 
-after-spoilt : (p : List ℕ) (ps : List (List ℕ)) → after spoilt p ps ≡ Malformed
+after-spoilt : (p : List ℕ) (ps : List (List ℕ)) → after spoilt p ps ≡ malformed_line
 unfolding after all-good
 after-spoilt p ps = refl
 
@@ -57,11 +56,11 @@ after-end r h = simp (or-false, and-true, lt-ltb _ _ h, add-zero)
 
 -- a space: the reader's number is complete
 module _ (r : Reader) (q : List ℕ) (ps : List (List ℕ)) where
-  space-bare : r.digits ≡ false → after r [] (q ∷ ps) ≡ Malformed
+  space-bare : r.digits ≡ false → after r [] (q ∷ ps) ≡ malformed_line
   unfolding after all-good continues
   space-bare d = simp (d, and-false)
 
-  space-full : 4 ≤ r.complete → after r [] (q ∷ ps) ≡ Malformed
+  space-full : 4 ≤ r.complete → after r [] (q ∷ ps) ≡ malformed_line
   unfolding after all-good
   space-full h =
       let e : eqb (r.complete + suc (length ps)) 4 ≡ false = ne_eqb (r.complete + suc (length ps)) 4 (omega arith) in
@@ -83,7 +82,7 @@ module _ (r : Reader) (q : List ℕ) (ps : List (List ℕ)) where
 
 -- a digit of the reader's number, and any other byte
 module _ (r : Reader) (b : ℕ) (q : List ℕ) (ps : List (List ℕ)) where
-  digit-large : 4_294_967_296 ≤ 10 * r.number + (b - 48) → after r (b ∷ q) ps ≡ Malformed
+  digit-large : 4_294_967_296 ≤ 10 * r.number + (b - 48) → after r (b ∷ q) ps ≡ malformed_line
   unfolding after all-good continues value_from
   digit-large h =
       let e : ltb (value_from (10 * r.number + (b - 48)) q) 4_294_967_296 ≡ false = le-ltb (value_from (10 * r.number + (b - 48)) q) 4_294_967_296 (omega (arith, value_grows (10 * r.number + (b - 48)) q)) in
@@ -100,7 +99,7 @@ module _ (r : Reader) (b : ℕ) (q : List ℕ) (ps : List (List ℕ)) where
       go false e = ap (λ s. after s q ps) (digited-large r (b - 48) (ltb-false _ _ e)) ∙ after-spoilt q ps ∙ sym (digit-large (ltb-false _ _ e))
       go true e = ap (λ s. after s q ps) (digited-small r (b - 48) (ltb-true _ _ e)) ∙ digit-small h
 
-  after-other : is_digit b ≡ false → after r (b ∷ q) ps ≡ Malformed
+  after-other : is_digit b ≡ false → after r (b ∷ q) ps ≡ malformed_line
   unfolding after all-good continues digits_only
   after-other h = simp (h, and-false)
 
@@ -134,7 +133,7 @@ parts-split (b ∷ bs) = go (eqb b 32) (parts bs)
     go false (l ∷ ls) = (b ∷ l, ls, refl)
 
 after-parts : Reader → List (List ℕ) → Line
-after-parts r [] = Malformed
+after-parts r [] = malformed_line
 after-parts r (p ∷ ps) = after r p ps
 
 after-byte : (r : Reader) (b : ℕ) (p : List ℕ) (ps : List (List ℕ)) → Small r
@@ -167,13 +166,13 @@ start-good p ps = sym (and_assoc (is_number p) (numbers_only ps) (eqb (suc (leng
 start-says : (p : List ℕ) (ps : List (List ℕ)) → after started p ps ≡ parts_say (p ∷ ps)
 unfolding after
 start-says p ps =
-    ap (λ (t : Bool). cond t (numbered (drop (length ps) line)) Malformed) (start-good p ps) ∙ go (numbers_only (p ∷ ps) && eqb (suc (length ps)) 5) refl
+    ap (λ (t : Bool). cond t (numbered (drop (length ps) line)) malformed_line) (start-good p ps) ∙ go (numbers_only (p ∷ ps) && eqb (suc (length ps)) 5) refl
   where
     line : List ℕ
     line = 0 ∷ 0 ∷ 0 ∷ 0 ∷ value p ∷ map value ps
 
     go : (t : Bool) → (numbers_only (p ∷ ps) && eqb (suc (length ps)) 5) ≡ t
-        → cond t (numbered (drop (length ps) line)) Malformed ≡ cond t (numbered (map value (p ∷ ps))) Malformed
+        → cond t (numbered (drop (length ps) line)) malformed_line ≡ cond t (numbered (map value (p ∷ ps))) malformed_line
     go false e = refl
     go true e =
         let f : length ps ≡ 4 = omega (arith, eqb-true (suc (length ps)) 5 (both_true (numbers_only (p ∷ ps)) (eqb (suc (length ps)) 5) e).1) in

@@ -1,7 +1,6 @@
 -- What the reader does with one byte, and with the end of the input. TextLaws shows that it reads every text as Text says.
 use Rattle.std.specs.Prelude.{ℕ, ◌+◌, ◌*◌, ◌-◌, List, [], ◌∷◌, Bool, true, false, cond, not, ◌&&◌, eqb, ltb}
-use Rattle.script.specs.declared.Line.{Line}
-use Rattle.script.specs.declared.Line.TheVariants.{Numbers, Malformed}
+use Rattle.script.specs.Text.{Line, numbers, malformed_line}
 use Rattle.script.specs.declared.Reader.{Reader}
 use Rattle.script.specs.declared.Step.{Step}
 use Rattle.script.specs.declared.Step.TheVariants.{More, Ended}
@@ -43,7 +42,7 @@ next_of r b = cond (eqb b 32) (spaced r) (cond (is_digit b) (digited r (b - 48))
 -- at the end of the line
 unfoldable pub end_of : Reader → Line
 end_of r =
-    cond (not r.malformed && (r.digits && eqb r.complete 4)) (Numbers r.first r.second r.third r.fourth r.number) Malformed
+    cond (not r.malformed && (r.digits && eqb r.complete 4)) (numbers r.first r.second r.third r.fourth r.number) malformed_line
 
 -- after any byte
 unfoldable pub step_of : Reader → ℕ → Step

@@ -4,12 +4,11 @@ use mathlib.Core.List.{List}
 use Rattle.std.proofs.Common.{sym, ◌∙◌, add-one, drop_of_length-le, drop-cons}
 use Rattle.std.proofs.Math.Path.{ap}
 use borrow.Author.Tests.{eq-eqb, ne_eqb, lt-ltb, le-ltb, le-leb, lt-leb}
-use Rattle.script.specs.declared.Line.{Line}
-use Rattle.script.specs.declared.Line.TheVariants.{Numbers, Malformed}
+use Rattle.script.specs.Text.{Line, numbers, malformed_line}
 use Rattle.script.specs.declared.Reader.{Reader}
 use Rattle.script.specs.declared.Step.{Step}
 use Rattle.script.specs.declared.Step.TheVariants.{More, Ended}
-use Rattle.std.specs.Prelude.{Option, None, Some}
+use Rattle.std.specs.Prelude.{None, Some}
 use Rattle.script.specs.declared.Scan.{Scan}
 use Rattle.script.specs.declared.Scan.TheVariants.{Open, Found}
 use Rattle.script.specs.Reading.{spoilt, completed, numbering, spaced, digited, next_of, end_of, step_of, fresh, last_of, scanned}
@@ -59,20 +58,20 @@ module _ (r : Reader) where
 
   -- ---- the end of the line
 
-  pub end-malformed : r.malformed ≡ true → end_of r ≡ Malformed
+  pub end-malformed : r.malformed ≡ true → end_of r ≡ malformed_line
   unfolding end_of
   end-malformed m = simp m
 
-  pub end-bare : r.malformed ≡ false → r.digits ≡ false → end_of r ≡ Malformed
+  pub end-bare : r.malformed ≡ false → r.digits ≡ false → end_of r ≡ malformed_line
   unfolding end_of
   end-bare m d = simp (m, d)
 
-  pub end_short : r.malformed ≡ false → r.digits ≡ true → (r.complete ≡ 4 → ⊥) → end_of r ≡ Malformed
+  pub end_short : r.malformed ≡ false → r.digits ≡ true → (r.complete ≡ 4 → ⊥) → end_of r ≡ malformed_line
   unfolding end_of
   end_short m d n = simp (m, d, ne_eqb _ _ n)
 
   pub end-numbers : r.malformed ≡ false → r.digits ≡ true → r.complete ≡ 4
-      → end_of r ≡ Numbers r.first r.second r.third r.fourth r.number
+      → end_of r ≡ numbers r.first r.second r.third r.fourth r.number
   unfolding end_of
   end-numbers m d e = simp (m, d, eq-eqb _ _ e)
 

@@ -1,8 +1,8 @@
 -- What a text means (01, "The program"): its lines, and the five numbers of a line. Bytes are numbers: 10 is the line feed, 32 the
 -- space, 48 to 57 are the digits.
 use Rattle.std.specs.Prelude.{ℕ, ◌+◌, ◌*◌, ◌-◌, List, [], ◌∷◌, map, Bool, true, false, cond, ◌&&◌, length, get_or, eqb, leb, ltb}
-use Rattle.script.specs.declared.Line.{Line}
-use Rattle.script.specs.declared.Line.TheVariants.{Numbers, Malformed}
+use Rattle.std.specs.Prelude.{Result, Ok, Err}
+use Rattle.script.specs.declared.Malformed.{Malformed}
 
 -- a byte in front of the first of some lists
 unfoldable pub onto : ℕ → List (List ℕ) → List (List ℕ)
@@ -52,12 +52,22 @@ numbers_only (p ∷ ps) = is_number p && numbers_only ps
 
 -- ---- lines
 
+-- what a line says: five numbers, or it is malformed
+abbrev pub Line : Type 0
+Line = Result (List ℕ) Malformed
+
+abbrev pub numbers : ℕ → ℕ → ℕ → ℕ → ℕ → Line
+numbers a b c d e = Ok (a ∷ b ∷ c ∷ d ∷ e ∷ [])
+
+abbrev pub malformed_line : Line
+malformed_line = Err (record { })
+
 abbrev pub numbered : List ℕ → Line
-numbered ns = Numbers (get_or ns 0 0) (get_or ns 1 0) (get_or ns 2 0) (get_or ns 3 0) (get_or ns 4 0)
+numbered ns = numbers (get_or ns 0 0) (get_or ns 1 0) (get_or ns 2 0) (get_or ns 3 0) (get_or ns 4 0)
 
 -- what a line says: it is five numbers, or malformed
 abbrev pub parts_say : List (List ℕ) → Line
-parts_say ps = cond (numbers_only ps && eqb (length ps) 5) (numbered (map value ps)) Malformed
+parts_say ps = cond (numbers_only ps && eqb (length ps) 5) (numbered (map value ps)) malformed_line
 
 abbrev pub says : List ℕ → Line
 says l = parts_say (parts l)

@@ -1,23 +1,11 @@
 // Blocks of commands, five words each, from the bytes of a buffer, and the answers to a block as text.
 ghost use Rattle.std.specs.Prelude.{◌≡◌, ◌+◌, ◌*◌, ◌<◌, ◌≤◌, length, drop};
-ghost use Rattle.script.specs.Blocks.{words_put, Took, answer_line, stacked};
+ghost use Rattle.script.specs.Blocks.{Took, answer_line, stacked};
 ghost use Rattle.script.specs.Writing.{Put};
 
 use crate::read::{start, step};
 use crate::write::put_row;
-use crate::{Filled, Line, Reader, Step};
-
-// The five words of a command.
-fn put_words(block: &mut [u32], at: usize, code: u32, thread: u32, a: u32, b: u32, c: u32)
-    requires { at + 5 ≤ length block.old }
-    ensures { block.new ≡ words_put block.old at code thread a b c }
-{
-    block[at] = code;
-    block[at + 1] = thread;
-    block[at + 2] = a;
-    block[at + 3] = b;
-    block[at + 4] = c;
-}
+use crate::{Filled, Malformed, Reader, Step};
 
 // The commands of a buffer from a position on, behind the words that the block has already: up to the end of the buffer, until the
 // block has no room for another, or to the first malformed line.
@@ -29,22 +17,16 @@ pub fn read_block(text: &[u8], from: usize, r: Reader, block: &mut [u32], used: 
     let mut n = used;
     for at in from..text.len() {
         match step(reader, text[at]) {
-            Step::More(next) => {
-                reader = next;
+            Step::More(next) => reader = next,
+            Step::Ended(Ok(numbers)) => {
+                block[n..n + 5].copy_from_slice(&numbers);
+                n += 5;
+                reader = start();
+                if block.len() < n + 5 {
+                    return Filled::Full(at + 1, n);
+                }
             }
-            Step::Ended(line) => match line {
-                Line::Numbers(code, thread, a, b, c) => {
-                    put_words(block, n, code, thread, a, b, c);
-                    n += 5;
-                    reader = start();
-                    if block.len() < n + 5 {
-                        return Filled::Full(at + 1, n);
-                    }
-                }
-                Line::Malformed => {
-                    return Filled::Broken(n);
-                }
-            },
+            Step::Ended(Err(Malformed)) => return Filled::Broken(n),
         }
     }
     Filled::Done(reader, n)

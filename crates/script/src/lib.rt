@@ -7,11 +7,11 @@ pub mod read;
 pub mod write;
 
 // What a line says: five numbers, or it is malformed.
+pub type Line = Result<[u32; 5], Malformed>;
+
+// Why a line says nothing: it is not five numbers.
 #[derive(Clone, Copy)]
-pub enum Line {
-    Numbers(u32, u32, u32, u32, u32),
-    Malformed,
-}
+pub struct Malformed;
 
 // A line of which some bytes are read, whatever its length. `first` to `fourth` are the last four of its complete numbers, `number` is
 // the one after them as far as it is read, and `digits` says whether it has a digit yet.

@@ -2,7 +2,7 @@
 ghost use Rattle.std.specs.Prelude.{◌≡◌, ◌+◌, ◌*◌, ◌<◌, drop};
 ghost use Rattle.script.specs.Reading.{started, spoilt, spaced, digited, next_of, end_of, step_of, fresh, last_of, scanned};
 
-use crate::{Line, Reader, Scan, Step};
+use crate::{Line, Malformed, Reader, Scan, Step};
 
 // The reader at the start of a line.
 pub fn start() -> Reader
@@ -96,19 +96,14 @@ fn read_byte(r: Reader, byte: u8) -> Reader
 }
 
 // The line ends here.
+#[tactic(auto, unfolding(crate::specs::Reading::end_of))]
 fn end(r: Reader) -> Line
     ensures { result ≡ end_of r }
 {
-    if r.malformed {
-        Line::Malformed
-    } else if r.digits {
-        if r.complete == 4 {
-            Line::Numbers(r.first, r.second, r.third, r.fourth, r.number)
-        } else {
-            Line::Malformed
-        }
+    if !r.malformed && r.digits && r.complete == 4 {
+        Ok([r.first, r.second, r.third, r.fourth, r.number])
     } else {
-        Line::Malformed
+        Err(Malformed)
     }
 }
 

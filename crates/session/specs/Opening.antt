@@ -7,8 +7,8 @@ use Rattle.lists.specs.Says.{true-not-false}
 use Rattle.rules.specs.declared.Sizes.{Sizes}
 use Rattle.rules.specs.Rules.{Regioned, unused}
 use Rattle.promises.specs.Slices.{Slices}
-use Rattle.script.specs.declared.Line.{Line}
-use Rattle.script.specs.declared.Line.TheVariants.{Numbers, Malformed}
+use Rattle.script.specs.Text.{Line, numbers, malformed_line}
+use Rattle.std.specs.Prelude.{Ok, Err}
 use Rattle.script.specs.declared.Reader.{Reader}
 use Rattle.script.specs.declared.Scan.{Scan}
 use Rattle.script.specs.declared.Scan.TheVariants.{Open, Found}
@@ -45,22 +45,22 @@ unfolding takes prints
 begun_opened {line} {r} b e = go line (sym b.told ∙ e)
   where
     go : (y : Line) → begins y ≡ true → Opened y
-    go (Numbers t v d p n) f =
+    go (Ok ns) f =
         record {
-          sizes-are = sizes t v d p n;
-          taken = ap (λ (a : Bool). cond a (running (sizes t v d p n) (unused (sizes t v d p n)) 2) stopped) f;
+          sizes-are = sizes_of ns;
+          taken = ap (λ (a : Bool). cond a (running (sizes_of ns) (unused (sizes_of ns)) 2) stopped) f;
           silent = ap (λ (a : Bool). cond a [] sizes_line) f;
         }
-    go Malformed f = absurd (true-not-false f)
+    go (Err e) f = absurd (true-not-false f)
 
 begun-stopped : {line : Line} {r : Bool} {l l' : Slices} → Begun line l r l' → r ≡ false → (takes opening line ≡ stopped) × (prints opening line ≡ sizes_line)
 unfolding takes prints
 begun-stopped {line} {r} b e = go line (sym b.told ∙ e)
   where
     go : (y : Line) → begins y ≡ false → (takes opening y ≡ stopped) × (prints opening y ≡ sizes_line)
-    go (Numbers t v d p n) f =
-        (ap (λ (a : Bool). cond a (running (sizes t v d p n) (unused (sizes t v d p n)) 2) stopped) f, ap (λ (a : Bool). cond a [] sizes_line) f)
-    go Malformed f = (refl, refl)
+    go (Ok ns) f =
+        (ap (λ (a : Bool). cond a (running (sizes_of ns) (unused (sizes_of ns)) 2) stopped) f, ap (λ (a : Bool). cond a [] sizes_line) f)
+    go (Err e) f = (refl, refl)
 
 pub begun-here : {line : Line} {r : Bool} {l l' : Slices} → Begun line l r l' → r ≡ true → Here l'
 unfolding Holds

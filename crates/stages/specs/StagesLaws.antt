@@ -4,8 +4,8 @@ use Rattle.std.proofs.Common.{arith, sym, ap, ap₂, subst, ◌∙◌, length-ap
 use Rattle.rules.specs.declared.Sizes.{Sizes}
 use Rattle.rules.specs.Rules.{Regioned, unused}
 use Rattle.promises.specs.Slices.{Slices}
-use Rattle.script.specs.declared.Line.{Line}
-use Rattle.script.specs.declared.Line.TheVariants.{Numbers, Malformed}
+use Rattle.script.specs.Text.{Line, numbers, malformed_line}
+use Rattle.std.specs.Prelude.{Ok, Err}
 use Rattle.script.specs.declared.Reader.{Reader}
 use Rattle.script.specs.Reading.{started, end_of, fresh, last_of}
 use Rattle.script.specs.TextLaws.{found}
@@ -114,14 +114,14 @@ line-in r stopped = refl
 
 line-takes : (x : Session) (line : Line) → line_in (takes x line) ≤ line_in x + 1
 unfolding takes
-line-takes opening (Numbers t v d p n) = go (accepted (sizes t v d p n))
+line-takes opening (Ok ns) = go (accepted (sizes_of ns))
   where
-    go : (b : Bool) → line_in (cond b (running (sizes t v d p n) (unused (sizes t v d p n)) 2) stopped) ≤ 2
+    go : (b : Bool) → line_in (cond b (running (sizes_of ns) (unused (sizes_of ns)) 2) stopped) ≤ 2
     go true = omega arith
     go false = omega arith
-line-takes opening Malformed = omega arith
-line-takes (running s h k) (Numbers code thread a b c) = omega arith
-line-takes (running s h k) Malformed = omega arith
+line-takes opening (Err e) = omega arith
+line-takes (running s h k) (Ok ns) = omega arith
+line-takes (running s h k) (Err e) = omega arith
 line-takes stopped line = omega arith
 
 line-takes-all : (ls : List Line) (x : Session) → line_in (takes_all x ls) ≤ line_in x + length ls
