@@ -1,5 +1,5 @@
 -- The first line: its sizes are accepted and the tables prepared, or no word changes.
-use Rattle.std.specs.Prelude.{ℕ, ◌+◌, ◌≤◌, ◌≡◌, refl, Bool, cond, ◌&&◌, leb, eqb}
+use Rattle.std.specs.Prelude.{ℕ, List, ◌+◌, ◌≤◌, ◌≡◌, refl, Bool, cond, ◌&&◌, leb, eqb}
 use Rattle.std.proofs.Common.{arith, mul-le-mul, ap, ap₂, ◌∙◌, length-append, length-drop}
 use Rattle.std.proofs.Math.Path.{sym, subst}
 use Rattle.std.proofs.Math.Bool.{true, false}
@@ -14,9 +14,10 @@ use Rattle.promises.specs.Slices.{Slices}
 use Rattle.promises.specs.Promises as pr
 use Rattle.promises.specs.Promises.{LongEnough, PrepareAsked, out_of_range, short, Unused, Prepared}
 use Rattle.promises.proofs.Preparing.{prepared-is}
+use Rattle.script.specs.declared.Malformed.{Malformed}
 use Rattle.script.specs.Text.{Line, numbers, malformed_line}
 use Rattle.std.specs.Prelude.{Ok, Err}
-use Rattle.printed.specs.Printed.{sizes, between, accepted, running, stopped, takes}
+use Rattle.printed.specs.Printed.{sizes_of, between, accepted, running, stopped, takes}
 use Rattle.lines.specs.Lines.{Lent, Holds, Prepares, LineChanges, Begun}
 
 -- ---- sizes
@@ -87,7 +88,7 @@ long-accepted s l lent r e = record { range = r; few-pages = omega (arith, lent.
 
 -- ---- prepare
 
-module _ {l l' : Slices} {q : ℕ} (t v d p n : ℕ) (lent : Lent l) (k : Prepared (sizes_of ns) l q l') where
+module _ {l l' : Slices} {q : ℕ} (ns : List ℕ) (lent : Lent l) (k : Prepared (sizes_of ns) l q l') where
   abbrev s : Sizes
   s = sizes_of ns
 
@@ -143,7 +144,7 @@ module _ {l l' : Slices} {q : ℕ} (t v d p n : ℕ) (lent : Lent l) (k : Prepar
       go (short e r f) = refused (λ (z : q ≡ 0). omega arith) (λ a. f (accepted-long s l lent a))
       go (pr.accepted e r f) = done e (long-accepted s l lent r f)
 
-pub malformed-begun : {l : Slices} → Lent l → Begun malformed_line l false l
+pub malformed-begun : {l : Slices} {e : Malformed} → Lent l → Begun (Err e) l false l
 unfolding takes Holds LineChanges
 malformed-begun lent = record { told = refl; lent = lent; holds = tt; changes = refl }
 

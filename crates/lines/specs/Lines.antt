@@ -9,7 +9,7 @@ use Rattle.promises.specs.StandsFor.{StandsFor}
 use Rattle.promises.specs.Promises.{Did, Unused}
 use Rattle.script.specs.Text.{Line, numbers, malformed_line}
 use Rattle.std.specs.Prelude.{Ok, Err}
-use Rattle.printed.specs.Printed.{sizes, command, accepted, Session, opening, running, stopped, takes}
+use Rattle.printed.specs.Printed.{sizes_of, command_of, accepted, Session, opening, running, stopped, takes}
 
 -- ---- the lent slices
 

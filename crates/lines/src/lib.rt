@@ -13,7 +13,7 @@ ghost use Rattle.printed.specs.Printed.{rows_text, reported};
 ghost use Rattle.lines.specs.Lines.{Lent, Here, Begun};
 
 use rules::Sizes;
-use script::Line;
+use script::{Line, Malformed};
 
 // Prepares the tables if a line has sizes that are accepted.
 pub fn prepare(
@@ -27,13 +27,14 @@ pub fn prepare(
     ensures { Begun line (slices cells.old remember.old tables.old chains.old) result (slices cells.new remember.new tables.new chains.new) }
 {
     match line {
-        Line::Numbers(threads, variables, depth, pages, entries) => {
+        Ok(numbers) => {
+            let [threads, variables, depth, pages, entries] = numbers;
             let number = prepare::taldreku_prepare(
                 threads, variables, depth, pages, entries, cells, remember, tables, chains,
             );
             number == 0
         }
-        Line::Malformed => false,
+        Err(Malformed) => false,
     }
 }
 
@@ -44,11 +45,9 @@ fn put_rows(p: Sizes, tables: &[u32], out: &mut [u8], at: usize) -> usize
 {
     let count = report::row_count(p, tables);
     let mut end = at;
-    let mut k = 0;
-    while k < count {
+    for k in 0..count {
         let row = report::row_at(p, tables, k);
-        end = script::write::put_four(out, end, row.thread, row.level, row.objects, row.pages);
-        k += 1;
+        end = script::write::put_row(out, end, &[row.thread, row.level, row.objects, row.pages]);
     }
     end
 }
@@ -63,9 +62,9 @@ pub fn put_report(remember: &[u32], tables: &[u32], out: &mut [u8], at: usize) -
     let p = layout::read_sizes(tables);
     let end = put_rows(p, tables, out, at);
     let free = report::free_pages(p, tables);
-    let last = script::write::put_two(out, end, free, report::crossing_slots(remember));
+    let last = script::write::put_row(out, end, &[free, report::crossing_slots(remember)]);
     let made = report::made(p, tables);
     let freed = report::freed(p, tables);
     let total = report::total(p, tables);
-    script::write::put_three(out, last, made, freed, total)
+    script::write::put_row(out, last, &[made, freed, total])
 }

@@ -2,8 +2,8 @@
 use Rattle.lines.proofs.FirstLine.{prepared-begun, malformed-begun, begun-as}
 use Rattle.lines.proofs.prepare.Goals as goal
 
-pub returns-in-Numbers : goal.returns-in-Numbers
-returns-in-Numbers c = begun-as c.in-Numbers.is (prepared-begun _ _ _ _ _ c.requires c.taldreku_prepare-number.ensures)
+pub returns-in-Ok : goal.returns-in-Ok
+returns-in-Ok c = begun-as c.in-Ok.is (prepared-begun _ c.requires c.taldreku_prepare-number.ensures)
 
-pub returns-in-Malformed : goal.returns-in-Malformed
-returns-in-Malformed c = begun-as c.in-Malformed.is (malformed-begun c.requires)
+pub returns-in-Err : goal.returns-in-Err
+returns-in-Err c = begun-as c.in-Err.is (malformed-begun c.requires)

@@ -22,12 +22,12 @@ freed-freed-requires c = here-whole c.requires.by_index.2 c.read_sizes-p.ensures
 pub total-total-requires : goal.total-total-requires
 total-total-requires c = here-whole c.requires.by_index.2 c.read_sizes-p.ensures
 
-pub put_three-requires : goal.put_three-requires
-put_three-requires c =
+pub put_row-requires : goal.put_row-requires
+put_row-requires c =
     let free = c.free_pages-free.type_inv in
     let slots = c.crossing_slots.type_inv in
     let put-rows = c.put_rows-end in
-    let put_two = c.put_two-last in
+    let put_two = c.put_row-last in
     omega (arith, c.requires.at_in_bounds, put-rows.ensures.1, put-rows.auto.out, put_two.auto.out, figures-end put_two.ensures (omega (arith, free, slots)) (omega (arith, free, slots)))
 
 pub returns : goal.returns
@@ -36,11 +36,11 @@ returns c =
     let rows = c.put_rows-end.ensures in
     let free-pages = c.free_pages-free in
     let crossing-slots = c.crossing_slots in
-    let figures = c.put_two-last.ensures in
+    let figures = c.put_row-last.ensures in
     let made = c.made-made in
     let freed = c.freed-freed in
     let total = c.total-total in
-    let last = c.put_three.ensures in
+    let last = c.put_row.ensures in
     let free-ok = free-pages.type_inv in
     let slots-ok = crossing-slots.type_inv in
     let made_ok = made.type_inv in
