@@ -4,18 +4,18 @@ use Rattle.std.proofs.Common.{arith, sym, ap, ap₂, subst, ◌∙◌, length-ap
 use Rattle.rules.specs.declared.Sizes.{Sizes}
 use Rattle.rules.specs.Rules.{Regioned, unused}
 use Rattle.promises.specs.Slices.{Slices}
-use Rattle.script.specs.Text.{Line, numbers, malformed_line}
+use Rattle.script.specs.Text.{Line}
 use Rattle.std.specs.Prelude.{Ok, Err}
 use Rattle.script.specs.declared.Reader.{Reader}
 use Rattle.script.specs.Reading.{started, end_of, fresh, last_of}
 use Rattle.script.specs.TextLaws.{found}
 use Rattle.script.specs.declared.Filled.{Filled}
 use Rattle.script.specs.declared.Filled.TheVariants.{Done, Broken}
-use Rattle.std.specs.Prelude.{Option, None, Some}
+use Rattle.std.specs.Prelude.{Option, None, Some, is_some}
 use Rattle.script.specs.Writing.{row, line_line, Put}
 use Rattle.script.specs.BlocksLaws.{used_in, length_found}
 use Rattle.script.proofs.WritingLaws.{decimal-length}
-use Rattle.printed.specs.Printed.{sizes, accepted, Session, opening, running, stopped, takes, takes_all}
+use Rattle.printed.specs.Printed.{sizes_of, accepted, Session, opening, running, stopped, takes, takes_all}
 use Rattle.printed.specs.Pieces.{Machine, machine, feed, first}
 use Rattle.lines.specs.Lines.{Lent, Here, Holds}
 use Rattle.stages.specs.declared.Stage.{Stage}
@@ -78,21 +78,13 @@ line_low n most e low = subst (λ (y : Stage). line_of y + n < most) e low
 
 -- ---- a line that has begun
 
-pub told-nothing : (r : Reader) {last : Option Line} → last ≡ last_of r → last ≡ None → false ≡ not (fresh r)
+pub told-begun : (r : Reader) → is_some (last_of r) ≡ not (fresh r)
 unfolding last_of
-told-nothing r {last} e f = go (fresh r) (sym e ∙ f)
+told-begun r = go (fresh r)
   where
-    go : (t : Bool) → cond t None (Some (end_of r)) ≡ None → false ≡ not t
-    go true q = refl
-    go false q = absurd (let z : ◌≡◌ {A = ℕ} 0 1 = cc in let o : ⊥ = omega arith in o)
-
-pub told-unended : (r : Reader) {last : Option Line} {x : Line} → last ≡ last_of r → last ≡ Some x → true ≡ not (fresh r)
-unfolding last_of
-told-unended r {last} {x} e f = go (fresh r) (sym e ∙ f)
-  where
-    go : (t : Bool) → cond t None (Some (end_of r)) ≡ Some x → true ≡ not t
-    go true q = absurd (let z : ◌≡◌ {A = ℕ} 0 1 = cc in let o : ⊥ = omega arith in o)
-    go false q = refl
+    go : (t : Bool) → let o : Option Line = cond t None (Some (end_of r)) in is_some o ≡ not t
+    go true = refl
+    go false = refl
 
 -- ---- from piece to piece
 
