@@ -9,7 +9,7 @@ use Rattle.chains.specs.Chains.{ChainsWhole}
 use Rattle.promises.specs.Slices.{Slices}
 use Rattle.promises.specs.StandsFor.{StandsFor}
 use Rattle.promises.specs.Promises.{commands_in}
-use Rattle.script.specs.Text.{Line, numbers, malformed_line}
+use Rattle.script.specs.Text.{Line, numbers}
 use Rattle.script.specs.Writing.{Put}
 use Rattle.printed.specs.Printed.{running, answer_text}
 use Rattle.lines.specs.Lines.{Lent, LinesChange}
