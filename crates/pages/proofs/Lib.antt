@@ -1,1 +1,2 @@
+pub mod NotedSearch
 pub mod Took
