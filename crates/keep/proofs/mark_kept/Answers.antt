@@ -2,21 +2,17 @@
 use Rattle.std.proofs.Common.{arith}
 use Rattle.layout.specs.Words.{words}
 use Rattle.mark.specs.Pushes.{pushing-kept, pushing-shaped}
-use Rattle.mark.specs.Reached.{whole-holding}
 use Rattle.mark.specs.Survivors.{shaped-at}
 use Rattle.keep.specs.Others.{kept-used}
 use Rattle.keep.specs.KeptByRules.{kept_refs, kept-pending, kept-marked}
 use Rattle.keep.proofs.mark_kept.Goals as goal
 
-pub push_variables-held-requires : goal.push_variables-held-requires
-push_variables-held-requires c =
+pub push_variables-held-requires-clause-shaped : goal.push_variables-held-requires-clause-shaped
+push_variables-held-requires-clause-shaped c =
     let args = c.args in
     let pre = c.requires in
-    let w = words args.cells.now pre.0 args.tables.now in record {
-      shaped = shaped-at args.p w pre.1 (omega arith);
-      by_index = (pre.0, whole-holding args.p w pre.1);
-      thread_bound = omega arith;
-    }
+    let w = words args.cells.now pre.0 args.tables.now in
+    shaped-at args.p w pre.1 (omega arith)
 
 pub push_others-top-requires : goal.push_others-top-requires
 push_others-top-requires c =

@@ -8,9 +8,6 @@ use Rattle.keep.proofs.push_page.Goals.{After-other_cells-n}
 few : (c : goal.After-other_cells-n) → c.other_cells-n.result ≤ page_cells
 few c = omega (arith, c.other_cells-n.ensures, cells-few c.args.p c.args.tables.now c.args.page c.requires.page_lt_pages.1)
 
-pub other_cells-n-requires : goal.other_cells-n-requires
-other_cells-n-requires c = record { room = c.requires.shaped.room; page_lt_pages = c.requires.page_lt_pages.0 }
-
 pub loop-place-init : goal.loop-place-init
 loop-place-init c = (refl, refl, none)
 
@@ -29,12 +26,6 @@ loop-place-preserved c =
     let h = cell-read c.requires.shaped c.requires.page_lt_pages.0 c.requires.page_lt_pages.1 c.loop-place.invariant.2 cell-on.result cell-on.ensures (omega (arith, c.other_cells-n.ensures)) c.scan-t.ensures in
     let k = pushing-kept c.requires.shaped h in
     (k.cells-length, k.tables-length, h)
-
-pub shape_of-cells : goal.shape_of-cells
-shape_of-cells c = c.loop-place.invariant.0
-
-pub shape_of-tables : goal.shape_of-tables
-shape_of-tables c = c.loop-place.invariant.1
 
 pub returns : goal.returns
 returns c =

@@ -5,7 +5,7 @@ use Rattle.layout.specs.Cells.{at-page}
 use Rattle.mark.specs.Holders.{slot-low}
 use Rattle.census.specs.After.{entries_cross}
 use Rattle.census.specs.OnPages.{own-listed}
-use Rattle.census.specs.Going.{entries_go, all-entries, holding-table}
+use Rattle.census.specs.Going.{entries_go, all-entries}
 use Rattle.census.proofs.crossing.cross_entries.Goals as goal
 use Rattle.census.proofs.crossing.cross_entries.Goals.{After-own_entries-own}
 
@@ -15,22 +15,13 @@ sums c =
     let own = own-listed a.p a.remember.now a.tables.now a.r (length a.list.now) a.list.now c.requires.lists (λ i l. at-page a.p (slot_in a.remember.now i) (slot-low c.requires.holding i l)) in
     omega (arith, all-entries c.requires.shaped c.requires.holding c.requires.others_stay, c.own_entries-own.ensures ∙ own, c.used-all.ensures)
 
-pub own_entries-own-requires : goal.own_entries-own-requires
-own_entries-own-requires c = record {
-  table = holding-table c.requires.holding;
-  entries_bound = (c.requires.shaped.room.entries-high, c.requires.shaped.room.few);
-  rises = c.requires.lists.rises;
-}
-
 pub overflow_sub-result : goal.overflow_sub-result
 overflow_sub-result c = omega (arith, sums (goal.at.overflow_sub-result c).After-own_entries-own)
 
 pub overflow_sub-result-2 : goal.overflow_sub-result-2
 overflow_sub-result-2 c = omega (arith, sums (goal.at.overflow_sub-result-2 c).After-own_entries-own, c.gone_entries.ensures)
 
-pub returns : goal.returns
-returns c =
-    let e = sums (goal.at.returns c).After-own_entries-own in record {
-      value = omega (arith, e, c.gone_entries.ensures);
-      upper_bound = omega (arith, c.used-all.ensures, c.requires.holding.remember.entries.room, c.requires.shaped.room.entries-high);
-    }
+pub returns-clause-value : goal.returns-clause-value
+returns-clause-value c =
+    let e = sums (goal.at.returns-clause-value c).After-own_entries-own in
+    omega (arith, e, c.gone_entries.ensures)

@@ -11,11 +11,8 @@ returns-then-x-eq0 c =
     let args = c.args in
     cross-after-null args.p args.cells.now args.tables.now args.home args.x c.if-x-eq0.true
 
-pub home_after-h-requires : goal.home_after-h-requires
-home_after-h-requires c = record {
-  room = c.requires.room;
-  c_bound = (omega (arith, c.cell_named.ensures, begins-page _ _ _ _ (c.requires.fact (omega (arith, c.if-x-eq0.false)))), c.requires.p_in_bounds);
-}
+pub home_after-h-requires-clause-c_bound : goal.home_after-h-requires-clause-c_bound
+home_after-h-requires-clause-c_bound c = (omega (arith, c.cell_named.ensures, begins-page _ _ _ _ (c.requires.fact (omega (arith, c.if-x-eq0.false)))), c.requires.p_in_bounds)
 
 pub returns : goal.returns
 returns c = go (ℕ_discrete c.other_region.result 0)

@@ -18,9 +18,6 @@ on c =
     next-leads c.requires.holding.remember.entries.room c.requires.chains_whole c.loop-x.invariant.leads c.loop-x-test.true
     (c.next-x.ensures ∙ ap (λ (l : ℕ). next_in l a.chains.now (c.loop-x.x - 1)) c.last_region-last.ensures)
 
-pub last_region-last-requires : goal.last_region-last-requires
-last_region-last-requires c = let room = c.requires.shaped.room in (room.threads-high, room.depth-high)
-
 pub first-x-requires : goal.first-x-requires
 first-x-requires c =
     (omega (arith, c.requires.le_r), omega (arith, c.requires.le_r, whole_long c.requires.holding.remember.entries.room c.requires.chains_whole))
@@ -32,24 +29,11 @@ loop-x-init c =
     (first-leads c.requires.holding.remember.entries.room c.requires.chains_whole a.r c.requires.le_r.0 c.requires.le_r.1
     c.first-x.ensures)
 
-pub overflow_sub-x : goal.overflow_sub-x
-overflow_sub-x c = omega (arith, c.loop-x-test.true)
-
-pub cross_entry-requires : goal.cross_entry-requires
-cross_entry-requires c = record {
-  shaped = c.requires.shaped;
-  holding = c.requires.holding;
-  i_bound = omega (arith, c.loop-x-test.true, c.loop-x.invariant.leads.low);
-}
-
 pub overflow_add-n : goal.overflow_add-n
 overflow_add-n c =
     let a = c.args in
     let few = walk-few a.p a.cells.now a.remember.now a.tables.now a.r c.loop-x.invariant in
     omega (arith, few.0, one (goal.at.overflow_add-n c).After-from-n, c.requires.holding.remember.entries.room, c.requires.shaped.room.entries-high)
-
-pub overflow_sub-x-in-loop-x : goal.overflow_sub-x-in-loop-x
-overflow_sub-x-in-loop-x c = omega (arith, c.loop-x-test.true)
 
 pub next-x-requires : goal.next-x-requires
 next-x-requires c =

@@ -3,17 +3,10 @@ use Rattle.std.proofs.Common.{arith}
 use Rattle.census.specs.After.{after-moved, after-still}
 use Rattle.census.proofs.crossing.home_after.Goals as goal
 
-pub work-target-requires : goal.work-target-requires
-work-target-requires c =
-    omega (arith, c.requires.room, c.requires.c_bound)
-
 pub returns-then-target-ne0 : goal.returns-then-target-ne0
 returns-then-target-ne0 c =
     let args = c.args in
     after-moved args.p args.cells.now args.tables.now args.c c.work-target.result c.work-target.ensures c.if-target-ne0.true
-
-pub owner-requires : goal.owner-requires
-owner-requires c = record { room = c.requires.room; page_lt_pages = omega (arith, c.requires.c_bound) }
 
 pub returns : goal.returns
 returns c =

@@ -1,6 +1,6 @@
-use Rattle.std.proofs.Common.{ℕ, ◌≤◌, ◌<◌, ◌≡◌, ap, ◌∙◌, arith, get_or, length}
+use Rattle.std.proofs.Common.{ℕ, ◌≤◌, ◌<◌, arith, get_or}
 use Rattle.lists.specs.Counting.{sum_more}
-use Rattle.census.specs.OnPages.{slots_on, slots_listed, slots-few, listed-few}
+use Rattle.census.specs.OnPages.{slots_on, slots-few, listed-few}
 use Rattle.census.proofs.crossing.own_entries.Goals as goal
 use Rattle.census.proofs.crossing.own_entries.Goals.{After-own_on-k}
 
@@ -10,12 +10,6 @@ here c = (
   omega (arith, listed-few c.requires.rises c.loop-page.page-index (omega arith), c.requires.entries_bound),
 )
 
-pub own_on-k-requires : goal.own_on-k-requires
-own_on-k-requires c = record {
-  table = c.requires.table;
-  entries_bound = (c.requires.entries_bound.0, omega (arith, c.requires.rises.low c.loop-page.page-index (omega arith), c.requires.entries_bound));
-}
-
 pub overflow_add-k : goal.overflow_add-k
 overflow_add-k c = omega (arith, here (goal.at.overflow_add-k c).After-own_on-k, c.loop-page.invariant)
 
@@ -23,8 +17,3 @@ pub loop-page-preserved : goal.loop-page-preserved
 loop-page-preserved c =
     let h = here (goal.at.loop-page-preserved c).After-own_on-k in
     (omega (arith, c.own_on-k.ensures, c.loop-page.invariant.0, sum_more (λ (j : ℕ). slots_on c.args.remember.now (get_or c.args.list.now j 0)) c.loop-page.page-index), omega (arith, h, c.loop-page.invariant))
-
-pub returns : goal.returns
-returns c =
-    let e : c.loop-page.page-index ≡ length c.args.list.now = omega arith in
-    c.loop-page.invariant.0 ∙ ap (slots_listed c.args.remember.now c.args.list.now) e

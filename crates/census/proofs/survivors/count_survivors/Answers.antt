@@ -1,6 +1,6 @@
 use Rattle.std.proofs.Common.{ℕ, ◌<◌, ◌+◌, ◌≡◌, refl, sym, ap, ◌∙◌, arith, get_or, length}
 use lib.Count.{ones}
-use Rattle.lists.specs.Part.{cut-here, through-start, through-turn, through-end}
+use Rattle.lists.specs.Part.{cut-here, through-start, through-turn}
 use Rattle.layout.specs.Places.{mark_of}
 use Rattle.census.specs.Survivors.{survivors_in, survivors-few, survivors-more, survivors-skip}
 use Rattle.census.proofs.survivors.count_survivors.Goals as goal
@@ -30,9 +30,6 @@ loop-page-init c =
     let a = c.args in
     through-start _ _ _ _ (λ q l off e. survivors-skip a.p a.tables.now q 0 (c.requires.by_index q l off) e) (omega arith)
 
-pub mark-requires : goal.mark-requires
-mark-requires c = record { room = c.requires.room; page_lt_pages = low (goal.at.mark-requires c).In-loop-page }
-
 pub overflow_add-k : goal.overflow_add-k
 overflow_add-k c =
     let a = c.args in
@@ -47,9 +44,3 @@ loop-page-preserved c =
     through-turn a.p.pages (length a.list.now) a.list.now (λ b. loop.k ≡ survivors_in a.p a.tables.now b) (λ b. loop.k + ones c.mark.result ≡ survivors_in a.p a.tables.now b)
     loop.page-index (page at) c.requires.rises (omega arith) refl loop.invariant (λ e. more (goal.at.loop-page-preserved c).After-mark (page at) refl (low at) (here at))
     (λ q l off e. survivors-skip a.p a.tables.now q (loop.k + ones c.mark.result) (c.requires.by_index q l off) e)
-
-pub returns : goal.returns
-returns c =
-    let a = c.args in
-    let loop = c.loop-page in
-    through-end a.p.pages (length a.list.now) a.list.now (λ b. loop.k ≡ survivors_in a.p a.tables.now b) loop.page-index c.requires.rises (omega arith) (omega arith) loop.invariant
