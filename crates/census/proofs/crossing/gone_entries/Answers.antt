@@ -26,8 +26,7 @@ pub loop-x-init : goal.loop-x-init
 loop-x-init c =
     let a = c.args in
     walk_begins a.p a.cells.now a.remember.now a.tables.now a.r
-    (first-leads c.requires.holding.remember.entries.room c.requires.chains_whole a.r c.requires.le_r.0 c.requires.le_r.1
-    c.first-x.ensures)
+    (first-leads c.requires.holding.remember.entries.room c.requires.chains_whole a.r c.requires.le_r.0 c.requires.le_r.1 c.first-x.ensures)
 
 pub overflow_add-n : goal.overflow_add-n
 overflow_add-n c =
