@@ -16,47 +16,43 @@ ghost use Rattle.release.specs.Emptied.{Emptied};
 use rules::Sizes;
 
 // The cells in use on the region's pages, which are those listed, become zero.
-pub fn clear_pages(p: Sizes, cells: &mut [u32], tables: &[u32], list: &[u32], n: usize, region: u32)
+pub fn clear_pages(p: Sizes, cells: &mut [u32], tables: &[u32], list: &[u32], region: u32)
     requires room { Room p (length tables.now) }
     requires regular { Regular p tables.now }
     requires p_in_bounds { cells_words p ≤ length cells.old }
-    requires lists { Lists (λ page. owner_of p tables.now page ≡ region) p.pages n list.now }
+    requires lists { Lists (λ page. owner_of p tables.now page ≡ region) p.pages (length list.now) list.now }
     ensures { Emptied p region p.pages tables.now cells.old cells.new }
 {
-    let mut i: usize = 0;
-    while i < n {
-        let page = layout::wide(list[i]);
-        let used = layout::wide(layout::tables::used(p, tables, page));
+    for page in list {
+        let page = *page as usize;
+        let used = layout::tables::used(p, tables, page) as usize;
         layout::cells::clear_cells(cells, page, 0, used);
-        i += 1;
     }
 }
 
 // The region's pages, which are those listed, become free.
-pub fn release_pages(p: Sizes, tables: &mut [u32], list: &[u32], n: usize, region: u32)
+pub fn release_pages(p: Sizes, tables: &mut [u32], list: &[u32], region: u32)
     requires room { Room p (length tables.old) }
-    requires lists { Lists (λ page. owner_of p tables.old page ≡ region) p.pages n list.now }
+    requires lists { Lists (λ page. owner_of p tables.old page ≡ region) p.pages (length list.now) list.now }
     ensures { Released p region p.pages tables.old tables.new }
 {
-    let mut i: usize = 0;
-    while i < n {
-        let page = layout::wide(list[i]);
+    for page in list {
+        let page = *page as usize;
         layout::tables::set_owner(p, tables, page, 0);
         layout::tables::set_used(p, tables, page, 0);
         layout::tables::set_mark(p, tables, page, 0);
-        i += 1;
     }
 }
 
 // Note 0 counts no more pages than lie above the last of the listed ones, which may become free.
-pub fn note_released(p: Sizes, notes: &mut [u32], list: &[u32], n: usize)
-    requires rises { Rises p.pages n list.now }
+pub fn note_released(p: Sizes, notes: &mut [u32], list: &[u32])
+    requires rises { Rises p.pages (length list.now) list.now }
     requires pages_bound { (p.pages ≤ 1024) × (note_words ≤ length notes.old) }
-    ensures { notes.new ≡ noted p.pages notes.old list.now n }
+    ensures { notes.new ≡ noted p.pages notes.old list.now (length list.now) }
 {
-    if n != 0 {
-        let above = p.pages - 1 - layout::wide(list[n - 1]);
-        if above < layout::wide(notes[0]) {
+    if let Some(last) = list.last() {
+        let above = p.pages - 1 - *last as usize;
+        if above < notes[0] as usize {
             notes[0] = above as u32;
         }
     }
@@ -68,7 +64,7 @@ pub fn count_freed(p: Sizes, tables: &mut [u32], n: u32)
     ensures { tables.new ≡ slice_set tables.old (freed_at p) (counted (freed_of p tables.old + n)) }
 {
     let freed = layout::tables::freed(p, tables);
-    layout::tables::set_freed(p, tables, std::num::wrapping_add_u32(freed, n));
+    layout::tables::set_freed(p, tables, freed.wrapping_add(n));
 }
 
 // The end of a thread's region, which frees so many objects: its cells, its pages, its count, the thread's depth, the counter.
@@ -78,7 +74,6 @@ pub fn release(
     tables: &mut [u32],
     notes: &mut [u32],
     list: &[u32],
-    n: usize,
     region: u32,
     thread: usize,
     freed: u32,
@@ -86,7 +81,7 @@ pub fn release(
     requires room { Room p (length tables.old) }
     requires regular { Regular p tables.old }
     requires p_in_bounds { cells_words p ≤ length cells.old }
-    requires lists { Lists (λ page. owner_of p tables.old page ≡ region) p.pages n list.now }
+    requires lists { Lists (λ page. owner_of p tables.old page ≡ region) p.pages (length list.now) list.now }
     requires le_region { (1 ≤ region) × (region ≤ regions p) }
     requires thread_lt_threads { (thread < p.threads) × (1 ≤ depth_of tables.old thread) }
     requires noted { Noted p tables.old notes.old }
@@ -94,10 +89,10 @@ pub fn release(
     ensures emptied { Emptied p region p.pages tables.old cells.old cells.new }
     ensures noted_2 { Noted p tables.new notes.new }
 {
-    clear_pages(p, cells, tables, list, n, region);
-    release_pages(p, tables, list, n, region);
-    note_released(p, notes, list, n);
-    layout::tables::set_count(p, tables, layout::wide(region), 0);
+    clear_pages(p, cells, tables, list, region);
+    release_pages(p, tables, list, region);
+    note_released(p, notes, list);
+    layout::tables::set_count(p, tables, region as usize, 0);
     let depth = layout::tables::depth(p, tables, thread);
     layout::tables::set_depth(p, tables, thread, depth - 1);
     count_freed(p, tables, freed);
