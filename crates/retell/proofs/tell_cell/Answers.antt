@@ -47,13 +47,10 @@ loop-f-init c =
 pub field-requires : goal.field-requires
 field-requires c = ((cell-readable c.args.cell c.requires.begins c.requires.slots_telling.readable).inside, few (goal.at.field-requires c).In-loop-f)
 
-pub cross-to-requires : goal.cross-to-requires
-cross-to-requires c =
+pub cross-to-requires-clause-names : goal.cross-to-requires-clause-names
+cross-to-requires-clause-names c =
     let a = c.args in
-    let r = c.requires.slots_telling.readable in record {
-      names = subst (λ (x : ℕ). Names a.p x) (sym c.field.ensures) (own-names a.cell c.loop-f.f c.requires.begins (r.few a.cell c.requires.begins) (lt (goal.at.cross-to-requires c).In-loop-f) r);
-      room = c.requires.slots_telling.readable.tables-long;
-    }
+    let r = c.requires.slots_telling.readable in subst (λ (x : ℕ). Names a.p x) (sym c.field.ensures) (own-names a.cell c.loop-f.f c.requires.begins (r.few a.cell c.requires.begins) (lt (goal.at.cross-to-requires-clause-names c).In-loop-f) r)
 
 pub field_at-requires : goal.field_at-requires
 field_at-requires c = ((cell-readable c.args.cell c.requires.begins c.requires.slots_telling.readable).inside.0, few (goal.at.field_at-requires c).In-loop-f)
@@ -62,14 +59,8 @@ pub overflow_cast-field_at : goal.overflow_cast-field_at
 overflow_cast-field_at c =
     omega (arith, c.field_at.ensures, field-high c.args.cell c.loop-f.f (cell-readable c.args.cell c.requires.begins c.requires.slots_telling.readable).inside.0 (few (goal.at.overflow_cast-field_at c).In-loop-f))
 
-pub put_entry-requires : goal.put_entry-requires
-put_entry-requires c = record {
-  entries_in_bounds = omega (arith, c.requires.slots_telling.telling.long);
-  i_lt_entries = roomy (goal.at.put_entry-requires c).After-cross-to (λ z. omega (arith, c.if-to-ne0.true));
-}
-
-pub overflow_add-i : goal.overflow_add-i
-overflow_add-i c = omega (arith, roomy (goal.at.overflow_add-i c).After-cross-to (λ z. omega (arith, c.if-to-ne0.true)), c.requires.slots_telling.readable.tables-long.entries-high)
+pub put_entry-requires-clause-i_lt_entries : goal.put_entry-requires-clause-i_lt_entries
+put_entry-requires-clause-i_lt_entries c = roomy (goal.at.put_entry-requires-clause-i_lt_entries c).After-cross-to (λ z. omega (arith, c.if-to-ne0.true))
 
 pub loop-f-preserved : goal.loop-f-preserved
 loop-f-preserved c =

@@ -11,16 +11,10 @@ here : (c : goal.After-used-used) → (let a = c.args in PageReadable a.p a.page
 here c =
     record { readable = c.requires.slots_telling.readable; low = c.requires.page_lt_pages; cells = c.used-used.ensures }
 
-pub used-used-requires : goal.used-used-requires
-used-used-requires c = record { room = c.requires.slots_telling.readable.tables-long; page_lt_pages = c.requires.page_lt_pages }
-
 pub loop-place-init : goal.loop-place-init
 loop-place-init c =
     let a = c.args in
     told-start (cross_to a.p a.cells.now a.tables.now) a.p.entries _ _ _ c.requires.slots_telling.telling.low
-
-pub cell_on-requires : goal.cell_on-requires
-cell_on-requires c = (omega (arith, c.requires.slots_telling.readable.tables-long.few, c.requires.page_lt_pages), omega (arith, used-most (here (goal.at.cell_on-requires c).After-used-used), c.loop-place-test.true))
 
 pub tell_cell-i-requires : goal.tell_cell-i-requires
 tell_cell-i-requires c =

@@ -10,11 +10,8 @@ use Rattle.retell.proofs.cells.rewrite_cells.Goals as goal
 pub loop-page-init : goal.loop-page-init
 loop-page-init c = forwarded-start _ 0 _ _
 
-pub rewrite_page-requires : goal.rewrite_page-requires
-rewrite_page-requires c = record {
-  readable = readable-rest c.loop-page.invariant c.requires (omega arith) (omega (arith, c.loop-page-test.true));
-  page_lt_pages = c.loop-page-test.true;
-}
+pub rewrite_page-requires-clause-readable : goal.rewrite_page-requires-clause-readable
+rewrite_page-requires-clause-readable c = readable-rest c.loop-page.invariant c.requires (omega arith) (omega (arith, c.loop-page-test.true))
 
 pub loop-page-preserved : goal.loop-page-preserved
 loop-page-preserved c = forwarded-on c.loop-page.invariant (omega arith) (omega arith) c.rewrite_page.ensures

@@ -9,14 +9,8 @@ here : (c : goal.After-used-used) → (let a = c.args in PageReadable a.p a.page
 here c =
     record { readable = c.requires.readable; low = c.requires.page_lt_pages; cells = c.used-used.ensures }
 
-pub used-used-requires : goal.used-used-requires
-used-used-requires c = record { room = c.requires.readable.tables-long; page_lt_pages = c.requires.page_lt_pages }
-
 pub loop-place-init : goal.loop-place-init
 loop-place-init c = forwarded-start _ _ _ _
-
-pub cell_on-requires : goal.cell_on-requires
-cell_on-requires c = (omega (arith, c.requires.readable.tables-long.few, c.requires.page_lt_pages), omega (arith, used-most (here (goal.at.cell_on-requires c).After-used-used), c.loop-place-test.true))
 
 pub rewrite_cell-requires : goal.rewrite_cell-requires
 rewrite_cell-requires c =
