@@ -1,10 +1,8 @@
 -- The rows in a lent list, and what the questions give.
-use Rattle.std.specs.Prelude.{◌≡◌, ℕ, suc, ◌+◌, ◌<◌, ◌≤◌, List, ◌++◌, length, take, drop, set, slice_index_or, slice_set}
-use Rattle.std.proofs.Common.{arith, add-one, ◌∙◌, take-suc, drop-cons}
+use Rattle.std.specs.Prelude.{◌≡◌, ℕ, suc, ◌<◌, ◌≤◌, List, ◌++◌, length, drop}
+use Rattle.std.proofs.Common.{arith, subst, ◌∙◌}
 use Rattle.std.proofs.Math.Path.{refl, sym, ap}
-use Rattle.std.proofs.Math.ListN.{length-append, length-drop, length-map}
-use Rattle.std.proofs.Math.Seq.{length-take-le, append_snoc, set_at, take-length}
-use Rattle.rules.specs.Regions.{regions}
+use Rattle.std.proofs.Math.ListN.{length-map}
 use Rattle.rules.specs.Graph.{crossing, free_pages}
 use Rattle.rules.specs.Rules.{graph}
 use Rattle.rules.specs.declared.Sizes.{Sizes}
@@ -17,7 +15,7 @@ use Rattle.promises.proofs.WholeChains.{read-other}
 use Rattle.promises.specs.Agreed.{heap_of-stands}
 use Rattle.promises.specs.Crossings.{heap-entries}
 use Rattle.report.specs.declared.Row.{Row}
-use Rattle.report.specs.Report.{no_row, rows, row_count, ReportAsked, not_whole, other_chains, short, accepted, Told, refusing, result_of, left_of, total_of}
+use Rattle.report.specs.Report.{rows, row_count, ReportAsked, not_whole, other_chains, short, accepted, Told, refusing, result_of, left_of, total_of}
 use Rattle.report.specs.Tables.{WholeTables, row_in, open_in, rows_in, whole-tables, free_in}
 use Rattle.report.proofs.Stands.{rows-stand, free-stands, made-stands, freed-stands, total-stands}
 use Rattle.report.specs.declared.Reported.{Reported}
@@ -113,3 +111,8 @@ module _ (l : Slices) (lent : List Row) (r : Reported) (k : Asking l (length len
       go (accepted e h n) =
           ap (λ (i : ℕ). written (these w) i lent) (rows_all e h.words) ∙ written_all (these w) lent
           ∙ ap (λ (x : List Row). x ++ drop (length x) lent) (these-stand w h.words) ∙ sym (ap (left_of (sizes_in w) (heap_of (sizes_in w) w) lent) e)
+
+  -- on refusal there is no row to write
+  pub told-refused : {q : ℕ} → r ≡ refusing q → Told l lent r lent
+  told-refused e =
+      subst (Told l lent r) (ap (λ (x : Reported). written (these w) x.rows lent) e ∙ written_none (these w) lent) told-written

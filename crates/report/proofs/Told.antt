@@ -3,7 +3,7 @@ use Rattle.std.specs.Prelude.{◌≡◌, ℕ, zero, suc, ◌+◌, List, ◌++◌
 use Rattle.std.proofs.Common.{arith, sym, ap, ◌∙◌, take_at}
 use Rattle.rules.specs.declared.Sizes.{Sizes}
 use Rattle.rules.specs.Graph.{crossing, free_pages}
-use Rattle.rules.specs.Rules.{Counters, Leaves, counted, Regioned, graph}
+use Rattle.rules.specs.Rules.{Counters, counted, Regioned, graph}
 use Rattle.layout.specs.Words.{Words, sizes_in, made_in, freed_in, heap_of}
 use Rattle.promises.specs.Whole.{WholeWords}
 use Rattle.promises.specs.Slices.{Slices}

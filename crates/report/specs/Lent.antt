@@ -1,24 +1,18 @@
 -- The rows in a lent list, and what the questions give.
-use Rattle.std.specs.Prelude.{◌≡◌, ℕ, suc, ◌+◌, ◌<◌, ◌≤◌, List, ◌++◌, length, take, drop, set, slice_index_or, slice_set}
+use Rattle.std.specs.Prelude.{◌≡◌, ℕ, suc, ◌+◌, ◌<◌, ◌≤◌, List, ◌++◌, length, take, drop, set, slice_index_or, slice_set, Result, Ok, Err}
 use Rattle.std.proofs.Common.{arith, add-one, ◌∙◌, take-suc, drop-cons}
 use Rattle.std.proofs.Math.Path.{refl, sym, ap}
-use Rattle.std.proofs.Math.ListN.{length-append, length-drop, length-map}
+use Rattle.std.proofs.Math.ListN.{length-append, length-drop}
 use Rattle.std.proofs.Math.Seq.{length-take-le, append_snoc, set_at, take-length}
 use Rattle.rules.specs.Regions.{regions}
-use Rattle.rules.specs.Graph.{crossing, free_pages}
-use Rattle.rules.specs.Rules.{graph}
-use Rattle.rules.specs.declared.Sizes.{Sizes}
-use Rattle.layout.specs.Places.{sizes_at, entries_used, made_of, freed_of}
-use Rattle.layout.specs.Words.{Words, sizes_in, heap_of}
-use Rattle.chains.specs.Chains.{ChainsWhole}
-use Rattle.promises.specs.Whole.{WholeWords}
-use Rattle.promises.specs.Slices.{Slices, WholeSlices}
-use Rattle.promises.proofs.WholeChains.{read-other}
-use Rattle.promises.specs.Agreed.{heap_of-stands}
-use Rattle.promises.specs.Crossings.{heap-entries}
+use Rattle.rules.specs.declared.Refusal.{Refusal}
+use Rattle.rules.specs.Refusals.{number_of}
+use Rattle.layout.specs.Places.{sizes_at}
+use Rattle.layout.specs.Words.{sizes_in, heap_of}
+use Rattle.promises.specs.Slices.{Slices}
 use Rattle.report.specs.declared.Row.{Row}
-use Rattle.report.specs.Report.{no_row, rows, row_count, ReportAsked, not_whole, other_chains, short, accepted, Told, refusing, result_of, left_of, total_of}
-use Rattle.report.specs.Tables.{WholeTables, row_in, open_in, rows_in, whole-tables, free_in}
+use Rattle.report.specs.Report.{no_row, ReportAsked, refusing, result_of}
+use Rattle.report.specs.Tables.{WholeTables}
 use Rattle.report.specs.declared.Reported.{Reported}
 
 -- ---- the first k rows of a list over the first k of those lent
@@ -51,6 +45,11 @@ module _ (r lent : List Row) where
 -- the tables are whole, and g is one of their regions
 abbrev pub RegionOf : List ℕ → ℕ → Type 0
 RegionOf t g = WholeTables (sizes_at t) t × (1 ≤ g) × (g ≤ regions (sizes_at t))
+
+-- the result of a report with these figures, or refused
+abbrev pub reported : Result Reported Refusal → Reported
+reported (Ok r) = r
+reported (Err q) = refusing (number_of q)
 
 -- the questions of a list of so many rows gave r
 pub record Asking (l : Slices) (room : ℕ) (r : Reported) : Type 0 where

@@ -6,10 +6,10 @@ ghost use Rattle.promises.specs.Slices.{slices};
 ghost use Rattle.report.specs.Report.{refusing, Told};
 ghost use Rattle.report.specs.Opened.{Next};
 ghost use Rattle.report.specs.Tables.{WholeTables, row_in, rows_in};
-ghost use Rattle.report.specs.Lent.{RegionOf, Asking, written};
+ghost use Rattle.report.specs.Lent.{RegionOf, Asking, reported, written};
 
 use crate::{Reported, Row, next_open, row_count, row_of};
-use rules::Sizes;
+use rules::Refusal;
 
 // The result of a refusal: no row is to be written.
 fn refused(number: u32) -> Reported
@@ -26,22 +26,28 @@ fn refused(number: u32) -> Reported
     }
 }
 
-// Questions 3, 16 and 15, of a list of so many rows, and the result that they give.
-fn ask(cells: &[u32], remember: &[u32], tables: &[u32], chains: &[u32], room: usize) -> Reported
-    ensures { Asking (slices cells.now remember.now tables.now chains.now) room result }
+// Questions 3, 16 and 15, of a list of so many rows: the first that says no, or the figures.
+fn ask(
+    cells: &[u32],
+    remember: &[u32],
+    tables: &[u32],
+    chains: &[u32],
+    room: usize,
+) -> Result<Reported, Refusal>
+    ensures { Asking (slices cells.now remember.now tables.now chains.now) room (reported result) }
 {
     if !whole::whole(cells, remember, tables) {
-        return refused(3);
+        return Err(Refusal::NotWhole);
     }
     let p = layout::read_sizes(tables);
     if !chains::chains_whole(p, remember, chains) {
-        return refused(16);
+        return Err(Refusal::Chains);
     }
     let rows = row_count(p, tables);
     if room < rows {
-        return refused(15);
+        return Err(Refusal::Rows);
     }
-    Reported {
+    Ok(Reported {
         number: 0,
         rows: rows as u32,
         free_pages: crate::free_pages(p, tables),
@@ -49,7 +55,7 @@ fn ask(cells: &[u32], remember: &[u32], tables: &[u32], chains: &[u32], room: us
         made: crate::made(p, tables),
         freed: crate::freed(p, tables),
         total: crate::total(p, tables),
-    }
+    })
 }
 
 // The row of a region, and the next open region, by the sizes that the tables name.
@@ -72,12 +78,10 @@ fn fill(rows: &mut [Row], tables: &[u32], n: usize)
     requires { (n ≤ length rows.old) × (n ≤ length (rows_in (sizes_at tables.now) tables.now)) × (0 < n → WholeTables (sizes_at tables.now) tables.now) }
     ensures { rows.new ≡ written (rows_in (sizes_at tables.now) tables.now) n rows.old }
 {
-    let mut k: usize = 0;
     let mut region: usize = 1;
-    while k < n {
-        rows[k] = row_in(tables, region);
+    for row in &mut rows[..n] {
+        *row = row_in(tables, region);
         region = open_after(tables, region);
-        k += 1;
     }
 }
 
@@ -93,7 +97,11 @@ pub fn taldreku_report(
 ) -> Reported
     ensures { Told (slices cells.now remember.now tables.now chains.now) rows.old result rows.new }
 {
-    let reported = ask(cells, remember, tables, chains, rows.len());
-    fill(rows, tables, reported.rows as usize);
-    reported
+    match ask(cells, remember, tables, chains, rows.len()) {
+        Ok(reported) => {
+            fill(rows, tables, reported.rows as usize);
+            reported
+        }
+        Err(refusal) => refused(refusal.number()),
+    }
 }

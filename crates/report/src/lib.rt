@@ -41,7 +41,7 @@ pub struct Reported {
 fn row_with(thread: u32, level: u32, objects: u32) -> Row
     ensures { result ≡ row_of thread level objects }
 {
-    let pages = layout::cells::pages_for(layout::wide(objects)) as u32;
+    let pages = layout::cells::pages_for(objects as usize) as u32;
     Row {
         thread,
         level,
@@ -65,21 +65,19 @@ pub fn row_of(p: Sizes, tables: &[u32], region: usize) -> Row
     row_with(thread, level, objects)
 }
 
-// The next open region by number; one past the last region if there is none.
+// The next open region by number; one past the last region if there is none, which is no Option since the turns of the rows (Turn) end there too.
 pub fn next_open(p: Sizes, tables: &[u32], region: usize) -> usize
     requires whole_tables { WholeTables p tables.now }
     requires le_region { (1 ≤ region) × (region ≤ regions p) }
     ensures { Next p (depths_at p tables.now) region result }
 {
-    let last = layout::wide(layout::regions::region_at(p, p.threads - 1, p.depth));
-    let mut next = region + 1;
-    while next <= last {
+    let last = layout::regions::region_at(p, p.threads - 1, p.depth) as usize;
+    for next in region + 1..=last {
         if whole::pages::is_open(p, tables, next) {
             return next;
         }
-        next += 1;
     }
-    next
+    last + 1
 }
 
 // How many rows there are: one for the control space, and one for each open region.
@@ -87,12 +85,9 @@ pub fn row_count(p: Sizes, tables: &[u32]) -> usize
     requires { WholeTables p tables.now }
     ensures { result ≡ length (rows_in p tables.now) }
 {
-    let threads = p.threads;
     let mut n: usize = 1;
-    let mut thread: usize = 0;
-    while thread < threads {
-        n += layout::wide(layout::tables::depth(p, tables, thread));
-        thread += 1;
+    for thread in 0..p.threads {
+        n += layout::tables::depth(p, tables, thread) as usize;
     }
     n
 }
@@ -108,13 +103,13 @@ fn open_region(p: Sizes, tables: &[u32], k: usize) -> usize
     }
     let mut level = k;
     let mut thread: usize = 0;
-    let mut deep = layout::wide(layout::tables::depth(p, tables, 0));
+    let mut deep = layout::tables::depth(p, tables, 0) as usize;
     while deep < level {
         level -= deep;
         thread += 1;
-        deep = layout::wide(layout::tables::depth(p, tables, thread));
+        deep = layout::tables::depth(p, tables, thread) as usize;
     }
-    layout::wide(layout::regions::region_at(p, thread, level))
+    layout::regions::region_at(p, thread, level) as usize
 }
 
 // Row k, by region number.

@@ -13,6 +13,3 @@ pub overflow_cast-result : goal.overflow_cast-result
 overflow_cast-result c =
     let a = c.args in
     omega (arith, c.owned_pages.ensures, owned-few a.p a.tables.now 0 a.p.pages, (tables-room-of a.p a.tables.now c.requires (omega arith)).few)
-
-pub returns : goal.returns
-returns c = c.owned_pages.ensures

@@ -7,6 +7,3 @@ pub freed-requires : goal.freed-requires
 freed-requires c =
     let a = c.args in
     tables-room-of a.p a.tables.now c.requires (omega arith)
-
-pub returns : goal.returns
-returns c = c.freed.ensures

@@ -7,6 +7,3 @@ pub made-requires : goal.made-requires
 made-requires c =
     let a = c.args in
     tables-room-of a.p a.tables.now c.requires (omega arith)
-
-pub returns : goal.returns
-returns c = c.made.ensures

@@ -1,4 +1,4 @@
-use Rattle.std.proofs.Common.{ℕ, sym, ◌∙◌, subst, arith}
+use Rattle.std.proofs.Common.{ℕ, sym, subst, arith}
 use Rattle.lists.specs.Counting.{sum_more}
 use Rattle.rules.specs.Regions.{region_at}
 use Rattle.layout.specs.Places.{depth_of}
@@ -14,20 +14,17 @@ returns-then-k-eq0 c =
     let depths = depths_at s c.args.tables.now in
     subst (λ (k : ℕ). Turn s depths k 1) (sym c.if-k-eq0.true) (turn-first s depths)
 
-pub depth-requires : goal.depth-requires
-depth-requires c =
+pub depth-deep-requires : goal.depth-deep-requires
+depth-deep-requires c =
     let a = c.args in record {
       room = tables-room-of a.p a.tables.now c.requires.whole_tables (omega arith);
       k_lt_threads = omega (arith, threads-low a.p a.tables.now c.requires.whole_tables);
     }
 
-pub wide-deep-requires : goal.wide-deep-requires
-wide-deep-requires c = tt
-
 pub loop-deep-init : goal.loop-deep-init
 loop-deep-init c =
     let a = c.args in
-    (omega (arith, threads-low a.p a.tables.now c.requires.whole_tables), c.wide-deep.ensures ∙ c.depth.ensures, omega arith, omega (arith, c.if-k-eq0.false))
+    (omega (arith, threads-low a.p a.tables.now c.requires.whole_tables), c.depth-deep.ensures, omega arith, omega (arith, c.if-k-eq0.false))
 
 pub overflow_sub-level : goal.overflow_sub-level
 overflow_sub-level c = omega (arith, c.loop-deep-test.true)
@@ -38,14 +35,11 @@ overflow_add-thread c =
     let space = tables-room-of a.p a.tables.now c.requires.whole_tables (omega arith) in
     omega (arith, c.loop-deep.invariant.0, space.threads-high)
 
-pub depth-requires-in-loop-deep : goal.depth-requires-in-loop-deep
-depth-requires-in-loop-deep c =
+pub depth-deep-requires-in-loop-deep : goal.depth-deep-requires-in-loop-deep
+depth-deep-requires-in-loop-deep c =
     let a = c.args in
     let l = c.loop-deep in
     let few = not_last a.p a.tables.now c.requires.whole_tables l.thread l.level l.invariant.0 (omega (arith, l.invariant.1, c.loop-deep-test.true)) (omega (arith, l.invariant.2, c.requires.k_in_bounds)) in record { room = tables-room-of a.p a.tables.now c.requires.whole_tables (omega arith); k_lt_threads = few }
-
-pub wide-deep-requires-in-loop-deep : goal.wide-deep-requires-in-loop-deep
-wide-deep-requires-in-loop-deep c = tt
 
 pub loop-deep-smaller : goal.loop-deep-smaller
 loop-deep-smaller c = omega (arith, c.loop-deep.invariant.0)
@@ -56,7 +50,7 @@ loop-deep-preserved c =
     let l = c.loop-deep in
     let few = not_last a.p a.tables.now c.requires.whole_tables l.thread l.level l.invariant.0 (omega (arith, l.invariant.1, c.loop-deep-test.true)) (omega (arith, l.invariant.2, c.requires.k_in_bounds)) in
     let more = sum_more (depth_of a.tables.now) l.thread in
-    (few, c.wide-deep-in-loop-deep.ensures ∙ c.depth-in-loop-deep.ensures, omega (arith, more, l.invariant.1, l.invariant.2, c.loop-deep-test.true), omega (arith, c.loop-deep-test.true))
+    (few, c.depth-deep-in-loop-deep.ensures, omega (arith, more, l.invariant.1, l.invariant.2, c.loop-deep-test.true), omega (arith, c.loop-deep-test.true))
 
 pub region_at-requires : goal.region_at-requires
 region_at-requires c =
@@ -65,9 +59,6 @@ region_at-requires c =
     let space = tables-room-of a.p a.tables.now c.requires.whole_tables (omega arith) in
     (space.threads-high, space.depth-high, l.invariant.0, omega (arith, c.requires.whole_tables.whole.depths l.thread l.invariant.0, l.invariant.1, c.loop-deep-test.false))
 
-pub wide-requires : goal.wide-requires
-wide-requires c = tt
-
 pub returns : goal.returns
 returns c =
     let a = c.args in
@@ -75,4 +66,4 @@ returns c =
     let s = a.p in
     let depths = depths_at s a.tables.now in
     let here = turn_at a.p a.tables.now c.requires.whole_tables l.thread l.level l.invariant.0 l.invariant.3 (omega (arith, l.invariant.1, c.loop-deep-test.false)) in
-    subst (λ (r : ℕ). Turn s depths a.k r) (sym (c.wide.ensures ∙ c.region_at.ensures)) (subst (λ (k : ℕ). Turn s depths k (region_at s l.thread l.level)) l.invariant.2 here)
+    subst (λ (r : ℕ). Turn s depths a.k r) (sym c.region_at.ensures) (subst (λ (k : ℕ). Turn s depths k (region_at s l.thread l.level)) l.invariant.2 here)

@@ -1,12 +1,11 @@
 -- The first question that says no decides; else the figures are those of the sizes that the tables name.
-use Rattle.std.proofs.Common.{sym, subst, arith}
+use Rattle.std.proofs.Common.{arith}
 use Rattle.lists.specs.Says.{said-no}
 use Rattle.promises.specs.Slices.{slices}
 use Rattle.promises.specs.Reading.{sizes-there, entries-there}
 use Rattle.promises.proofs.WholeChains.{read-chainable, found-whole}
 use Rattle.report.specs.Tables.{whole-tables}
 use Rattle.report.proofs.Stands.{rows_few}
-use Rattle.report.specs.Lent.{Asking}
 use Rattle.report.proofs.LentRows.{asking-not-whole, asking-other, asking-short, asking-all}
 use Rattle.report.proofs.lent.ask.Goals as goal
 
@@ -14,7 +13,7 @@ pub returns-then-not-whole : goal.returns-then-not-whole
 returns-then-not-whole c =
     let a = c.args in
     let l = slices a.cells.now a.remember.now a.tables.now a.chains.now in
-    subst (Asking l a.room) (sym c.refused.ensures) (asking-not-whole l a.room (said-no _ c.whole.ensures c.if-not-whole.true))
+    asking-not-whole l a.room (said-no _ c.whole.ensures c.if-not-whole.true)
 
 pub read_sizes-p-requires : goal.read_sizes-p-requires
 read_sizes-p-requires c = sizes-there (c.whole.ensures.0 c.if-not-whole.false).sized
@@ -26,8 +25,7 @@ pub returns-then-not-chains_whole : goal.returns-then-not-chains_whole
 returns-then-not-chains_whole c =
     let a = c.args in
     let l = slices a.cells.now a.remember.now a.tables.now a.chains.now in
-    subst (Asking l a.room) (sym c.refused-then-not-chains_whole.ensures)
-    (asking-other l a.room (c.whole.ensures.0 c.if-not-whole.false) c.read_sizes-p.ensures (said-no _ c.chains_whole.ensures c.if-not-chains_whole.true))
+    asking-other l a.room (c.whole.ensures.0 c.if-not-whole.false) c.read_sizes-p.ensures (said-no _ c.chains_whole.ensures c.if-not-chains_whole.true)
 
 pub row_count-rows-requires : goal.row_count-rows-requires
 row_count-rows-requires c = whole-tables (c.whole.ensures.0 c.if-not-whole.false) c.read_sizes-p.ensures
@@ -37,8 +35,7 @@ returns-then-room-rows c =
     let a = c.args in
     let l = slices a.cells.now a.remember.now a.tables.now a.chains.now in
     let k = found-whole (c.whole.ensures.0 c.if-not-whole.false) c.read_sizes-p.ensures (c.chains_whole.ensures.0 c.if-not-chains_whole.false) in
-    subst (Asking l a.room) (sym c.refused-then-room-rows.ensures)
-    (asking-short l a.room k c.read_sizes-p.result c.read_sizes-p.ensures c.row_count-rows.result c.row_count-rows.ensures c.if-room-rows.true)
+    asking-short l a.room k c.read_sizes-p.result c.read_sizes-p.ensures c.row_count-rows.result c.row_count-rows.ensures c.if-room-rows.true
 
 pub overflow_cast-result : goal.overflow_cast-result
 overflow_cast-result c =
