@@ -7,7 +7,7 @@ use Rattle.lists.specs.Says.{true-not-false}
 use Rattle.rules.specs.declared.Sizes.{Sizes}
 use Rattle.rules.specs.Rules.{Regioned, unused}
 use Rattle.promises.specs.Slices.{Slices}
-use Rattle.script.specs.Text.{Line, numbers, malformed_line}
+use Rattle.script.specs.Text.{Line}
 use Rattle.std.specs.Prelude.{Ok, Err}
 use Rattle.script.specs.declared.Reader.{Reader}
 use Rattle.script.specs.declared.Scan.{Scan}
@@ -18,7 +18,7 @@ use Rattle.script.specs.Writing.{Put, sizes_line}
 use Rattle.script.proofs.WritingLaws.{put-text}
 use Rattle.script.proofs.Stacked.{stack-none}
 use Rattle.script.specs.Blocks.{stacked}
-use Rattle.printed.specs.Printed.{sizes, Session, opening, running, stopped, takes, prints, takes_all, prints_all}
+use Rattle.printed.specs.Printed.{sizes_of, Session, opening, running, stopped, takes, prints, takes_all, prints_all}
 use Rattle.printed.specs.Pieces.{Machine, machine, feed, feed_prints, stopped-takes, stopped-prints}
 use Rattle.lines.specs.Lines.{Lent, Here, Holds, LinesChange, begins, Begun}
 use Rattle.lines.specs.Changes.{changes-stopped}
