@@ -17,8 +17,8 @@ use Rattle.stages.specs.declared.Stage.TheVariants.{Opening, Running, Stopped}
 use Rattle.stages.specs.declared.Fed.{Fed}
 use Rattle.stages.specs.Stages.{At, line_of, Feeds, Closes}
 use Rattle.stages.specs.StagesLaws.{at-stopped, at_first, line-fed}
-use Rattle.stream.specs.declared.Piece.{Piece}
-use Rattle.stream.specs.declared.Piece.TheVariants.{Bytes}
+use Rattle.std.specs.Prelude.{Result, Ok}
+use Rattle.stream.specs.declared.Unread.{Unread}
 use Rattle.stream.specs.declared.Ending.{Ending}
 use Rattle.stream.specs.declared.Ending.TheVariants.{More, Finished}
 use Rattle.stream.specs.declared.Outcome.{Outcome}
@@ -39,8 +39,8 @@ module _ {m : Machine} {l l' : Slices} {out after : List ℕ} where
 
 -- ---- what a turn did
 
-pub bytes-short : {p : Piece} {n most : ℕ} → p ≡ Bytes n → within p ≤ most → n ≤ most
-bytes-short {most = most} e h = subst (λ (q : Piece). within q ≤ most) e h
+pub bytes-short : {p : Result ℕ Unread} {n most : ℕ} → p ≡ Ok n → within p ≤ most → n ≤ most
+bytes-short {most = most} e h = subst (λ (q : Result ℕ Unread). within q ≤ most) e h
 
 pub turn_moved : {stage : Stage} {l l' : Slices} {out text after : List ℕ} {x : Fed} {ending : Ending} {n count : ℕ} (taken : Bool) → ending ≡ ending_of x.stage taken
     → ((m : Machine) → At m stage l → Advances m (take n text) l out x after l') → count ≡ x.length

@@ -1,5 +1,5 @@
 -- What a turn of the loop promises, and what the loop promises of all its turns.
-use Rattle.std.specs.Prelude.{ℕ, ◌≤◌, ◌≡◌, Bool, true, false, cond, length, take}
+use Rattle.std.specs.Prelude.{ℕ, ◌≤◌, ◌≡◌, Bool, true, false, cond, Result, Ok, Err, length, take}
 use mathlib.Core.List.{List, [], ◌∷◌, flatten}
 use Rattle.promises.specs.Slices.{Slices}
 use Rattle.printed.specs.Printed.{printed}
@@ -8,8 +8,7 @@ use Rattle.stages.specs.declared.Stage.{Stage}
 use Rattle.stages.specs.declared.Stage.TheVariants.{Stopped}
 use Rattle.stages.specs.declared.Fed.{Fed}
 use Rattle.stages.specs.Stages.{At, stopped_at, Feeds, Closes}
-use Rattle.stream.specs.declared.Piece.{Piece}
-use Rattle.stream.specs.declared.Piece.TheVariants as piece
+use Rattle.stream.specs.declared.Unread as unread_piece
 use Rattle.stream.specs.declared.Ending.{Ending}
 use Rattle.stream.specs.declared.Ending.TheVariants.{More, Finished, Unread, Unwritten}
 use Rattle.stream.specs.declared.Outcome.{Outcome}
@@ -21,9 +20,9 @@ pub record Buffers (text out : List ℕ) : Type 0 where
   pub text-room : length out ≡ 36084
 
 -- how many bytes a piece has
-abbrev pub within : Piece → ℕ
-within (piece.Bytes n) = n
-within piece.Unread = 0
+abbrev pub within : Result ℕ unread_piece.Unread → ℕ
+within (Ok n) = n
+within (Err e) = 0
 
 -- how a turn ends whose read did not fail, by the stage after it and by whether the write took everything
 abbrev pub ending_of : Stage → Bool → Ending

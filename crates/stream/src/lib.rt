@@ -12,14 +12,11 @@ ghost use Rattle.stream.specs.Turns.{Buffers, within, ending_of, goes_on, Advanc
 use stages::{Fed, Stage};
 use std::io::{Read, Write};
 
-// A piece of the input: so many bytes, none at its end, or the read failed.
+// A piece of the input cannot be read.
 #[derive(Clone, Copy)]
-pub enum Piece {
-    Bytes(usize),
-    Unread,
-}
+pub struct Unread;
 
-// How many bytes were handed to the write, and whether it took them all.
+// How many bytes were handed to the write, and whether it took them all: as many in either case, so this is no Result.
 #[derive(Clone, Copy)]
 pub struct Printed {
     pub length: usize,
@@ -52,15 +49,15 @@ pub struct Served {
     pub printed: u64,
 }
 
-// Reads a piece to the start of a buffer.
-fn read_piece(rt: &impl Eprint, input: &mut impl Read, text: &mut [u8]) -> Piece
+// Reads a piece to the start of a buffer: how many bytes it has, none at the input's end.
+fn read_piece(rt: &impl Eprint, input: &mut impl Read, text: &mut [u8]) -> Result<usize, Unread>
     ensures { within result ≤ length text.new }
 {
     match input.read(text) {
-        Ok(n) => Piece::Bytes(n),
+        Ok(n) => Ok(n),
         Err(_) => {
             let _ = eprintln!(rt; "taldreku: the input cannot be read");
-            Piece::Unread
+            Err(Unread)
         }
     }
 }
@@ -149,13 +146,13 @@ fn turn(
 {
     let piece = read_piece(rt, input, text);
     match piece {
-        Piece::Unread => Outcome {
+        Err(Unread) => Outcome {
             ending: Ending::Unread,
             stage: Stage::Stopped,
             read: 0,
             printed: 0,
         },
-        Piece::Bytes(n) => {
+        Ok(n) => {
             let fed = advance(stage, &text[..n], cells, remember, tables, chains, out);
             let length = fed.length;
             let next = fed.stage;
@@ -189,8 +186,7 @@ fn go_on(
     let mut stage = stages::start();
     let mut read: u64 = 0;
     let mut printed: u64 = 0;
-    let mut turns: u64 = 281474976710656;
-    while turns > 0 {
+    for _ in 0..281474976710656u64 {
         let done = turn(
             rt, input, output, stage, text, cells, remember, tables, chains, out,
         );
@@ -199,18 +195,17 @@ fn go_on(
         let ending = done.ending;
         if !goes_on(ending) {
             return Served {
-                ending: ending,
-                read: read,
-                printed: printed,
+                ending,
+                read,
+                printed,
             };
         }
         stage = done.stage;
-        turns -= 1;
     }
     Served {
         ending: Ending::More,
-        read: read,
-        printed: printed,
+        read,
+        printed,
     }
 }
 

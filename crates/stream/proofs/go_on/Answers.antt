@@ -4,8 +4,8 @@ use Rattle.stream.specs.declared.Ending.TheVariants.{More, Finished}
 use Rattle.stream.specs.Going.{so-far-first, so-far-serves, turned-serves, turned_on, turned-line, turned-some}
 use Rattle.stream.proofs.go_on.Goals as goal
 
-pub loop-turns-init : goal.loop-turns-init
-loop-turns-init g c = record {
+pub loop-init : goal.loop-init
+loop-init g c = record {
   buffers = c.requires.buffers;
   fed = so-far-first c.start-stage.ensures c.requires.lent;
   line = omega (arith, ap line_of c.start-stage.ensures);
@@ -16,18 +16,18 @@ loop-turns-init g c = record {
 
 pub turn-done-requires : goal.turn-done-requires
 turn-done-requires g c = record {
-  buffers = (c.loop-turns.invariant.buffers, omega (arith, c.loop-turns.invariant.line));
-  placed = (_, c.loop-turns.invariant.fed.is_at);
+  buffers = (c.loop.invariant.buffers, omega (arith, c.loop.invariant.line));
+  placed = (_, c.loop.invariant.fed.is_at);
 }
 
 pub returns-then-not-goes_on : goal.returns-then-not-goes_on
 returns-then-not-goes_on g c =
     let done = c.turn-done.ensures in
-    turned-serves c.loop-turns.invariant.fed done.turned done.read_in_bounds.0 (sym c.goes_on.ensures ∙ c.if-not-goes_on.true)
+    turned-serves c.loop.invariant.fed done.turned done.read_in_bounds.0 (sym c.goes_on.ensures ∙ c.if-not-goes_on.true)
 
-pub loop-turns-preserved : goal.loop-turns-preserved
-loop-turns-preserved g c =
-    let inv = c.loop-turns.invariant in
+pub loop-preserved : goal.loop-preserved
+loop-preserved g c =
+    let inv = c.loop.invariant in
     let done = c.turn-done.ensures in
     let on = sym c.goes_on.ensures ∙ c.if-not-goes_on.false in
     record {
@@ -40,4 +40,4 @@ loop-turns-preserved g c =
     }
 
 pub returns : goal.returns
-returns g c = so-far-serves More (λ (e : More ≡ Finished). cc) (λ e. omega (arith, c.loop-turns.invariant.turned)) c.loop-turns.invariant.fed
+returns g c = so-far-serves More (λ (e : More ≡ Finished). cc) (λ e. omega (arith, c.loop.invariant.turned)) c.loop.invariant.fed

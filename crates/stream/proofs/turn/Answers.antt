@@ -5,7 +5,7 @@ use Rattle.stream.specs.Going.{bytes-short, turn_moved}
 use Rattle.stream.proofs.turn.Goals as goal
 
 pub slice_bounds-advance-end : goal.slice_bounds-advance-end
-slice_bounds-advance-end g c = omega (arith, bytes-short c.in-Bytes.is c.read_piece-piece.ensures)
+slice_bounds-advance-end g c = omega (arith, bytes-short c.in-Ok.is c.read_piece-piece.ensures)
 
 pub advance-fed-requires : goal.advance-fed-requires
 advance-fed-requires g c = record {
@@ -16,15 +16,15 @@ advance-fed-requires g c = record {
 pub slice_bounds-print-end : goal.slice_bounds-print-end
 slice_bounds-print-end g c = omega (arith, c.advance-fed.ensures.length_bound, c.requires.buffers.0.text-room)
 
-pub returns-in-Unread : goal.returns-in-Unread
-returns-in-Unread g c = record { turned = unread refl refl refl refl refl; read_in_bounds = (omega arith, omega arith) }
+pub returns-in-Err : goal.returns-in-Err
+returns-in-Err g c = record { turned = unread refl refl refl refl refl; read_in_bounds = (omega arith, omega arith) }
 
-pub returns-in-Bytes : goal.returns-in-Bytes
-returns-in-Bytes g c =
+pub returns-in-Ok : goal.returns-in-Ok
+returns-in-Ok g c =
     let fed = c.advance-fed in
     let printed = c.print-printed in
     let length-is = printed.ensures ∙ length-take-le fed.result.length fed.new.out (omega (arith, fed.ensures.length_bound, c.requires.buffers.0.text-room)) in
     record {
       turned = turn_moved printed.result.taken c.ending_at.ensures fed.ensures.advances length-is;
-      read_in_bounds = (bytes-short c.in-Bytes.is c.read_piece-piece.ensures, omega (arith, length-is, fed.ensures.length_bound));
+      read_in_bounds = (bytes-short c.in-Ok.is c.read_piece-piece.ensures, omega (arith, length-is, fed.ensures.length_bound));
     }
