@@ -1,4 +1,5 @@
 // The region that a slot crosses into: of a reference, of a reference in a slot of some region, and of whatever word stands at a position.
+// None is 0, as in 01 and in the definitions, and no Option: the answer is compared with the region that an entry holds, or stored there.
 ghost use Rattle.std.specs.Prelude.{◌≡◌, ◌≤◌, ◌<◌, length};
 ghost use Rattle.layout.specs.Places.{Room, cells_words};
 ghost use Rattle.layout.specs.Words.{Names};

@@ -17,22 +17,16 @@ fn put(words: &mut [u32], at: usize, x: u32)
 }
 
 fn say(rt: &impl Print, name: &str, accepted: bool) -> io::Result<()> {
-    if accepted {
-        println!(rt; "{name} accepted")
-    } else {
-        println!(rt; "{name} refused")
-    }
+    let verdict = if accepted { "accepted" } else { "refused" };
+    println!(rt; "{name} {verdict}")
 }
 
 // Changes are pairs: a position, and the word that it becomes.
 fn change(words: &mut [u32], changes: &[u32])
     ensures { words.new ≡ changed words.old changes.now (length changes.now / 2) }
 {
-    let n = changes.len() / 2;
-    let mut i: usize = 0;
-    while i < n {
-        put(words, layout::wide(changes[2 * i]), changes[2 * i + 1]);
-        i += 1;
+    for pair in changes.chunks_exact(2) {
+        put(words, pair[0] as usize, pair[1]);
     }
 }
 
