@@ -13,12 +13,3 @@ overflow_add-result c =
     let first_field = c.first_field in
     omega
     (arith, most-is, pre.field, first-is args.kind args.cells.now args.x cell.result head.result first_field.result cell.ensures head.ensures first_field.ensures)
-
-pub returns : goal.returns
-returns c =
-    let args = c.args in
-    let cell = c.cell_named in
-    let head = c.head-head in
-    let first_field = c.first_field in
-    omega
-    (arith, first-is args.kind args.cells.now args.x cell.result head.result first_field.result cell.ensures head.ensures first_field.ensures)

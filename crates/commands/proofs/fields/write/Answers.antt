@@ -8,12 +8,10 @@ use Rattle.commands.specs.Decoding.{question-nonzero}
 use Rattle.commands.specs.Objects.{names-cell, is_field, write-refused, write_done}
 use Rattle.commands.proofs.fields.write.Goals as goal
 
-pub read_var-x-requires : goal.read_var-x-requires
-read_var-x-requires c =
-    let args = c.args in record {
-      room = (whole_room args.p (words args.cells.now args.remember.now args.tables.now) c.requires.whole_for (omega arith));
-      t_lt_threads = (c.requires.t_lt_threads.0, c.requires.t_lt_threads.1);
-    }
+pub read_var-x-requires-clause-room : goal.read_var-x-requires-clause-room
+read_var-x-requires-clause-room c =
+    let args = c.args in
+    whole_room args.p (words args.cells.now args.remember.now args.tables.now) c.requires.whole_for (omega arith)
 
 pub field_question-requires : goal.field_question-requires
 field_question-requires c =

@@ -7,18 +7,20 @@ use Rattle.promises.specs.Reading.{whole_room}
 use Rattle.commands.specs.Variables.{clear-done}
 use Rattle.commands.proofs.variables.clear.Goals as goal
 
-pub write_var-requires : goal.write_var-requires
-write_var-requires c =
-    let args = c.args in record {
-      room = (whole_room args.p (words args.cells.now args.remember.now args.tables.now) c.requires.whole_for (omega arith));
-      t_lt_threads = c.requires.t_lt_threads;
-    }
-
-pub returns : goal.returns
-returns c =
+pub write_var-requires-clause-room : goal.write_var-requires-clause-room
+write_var-requires-clause-room c =
     let args = c.args in
-    let write-var = c.write_var in record {
-      does = clear-done args.p args.cells.now args.remember.now args.tables.now c.requires.whole_for args.t args.a c.requires.t_lt_threads.0 c.requires.t_lt_threads.1
-          write-var.ensures;
-      none_freed = none-freed-before args.p args.tables.now (variable_at args.p args.t args.a) _ (variable-low args.p args.t args.a c.requires.t_lt_threads.0 c.requires.t_lt_threads.1) write-var.ensures;
-    }
+    whole_room args.p (words args.cells.now args.remember.now args.tables.now) c.requires.whole_for (omega arith)
+
+pub returns-clause-does : goal.returns-clause-does
+returns-clause-does c =
+    let args = c.args in
+    let write-var = c.write_var in
+    clear-done args.p args.cells.now args.remember.now args.tables.now c.requires.whole_for args.t args.a c.requires.t_lt_threads.0 c.requires.t_lt_threads.1
+    write-var.ensures
+
+pub returns-clause-none_freed : goal.returns-clause-none_freed
+returns-clause-none_freed c =
+    let args = c.args in
+    let write-var = c.write_var in
+    none-freed-before args.p args.tables.now (variable_at args.p args.t args.a) _ (variable-low args.p args.t args.a c.requires.t_lt_threads.0 c.requires.t_lt_threads.1) write-var.ensures

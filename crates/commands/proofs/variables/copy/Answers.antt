@@ -7,26 +7,26 @@ use Rattle.promises.specs.Reading.{whole_room}
 use Rattle.commands.specs.Variables.{copy_done}
 use Rattle.commands.proofs.variables.copy.Goals as goal
 
-pub read_var-x-requires : goal.read_var-x-requires
-read_var-x-requires c =
-    let args = c.args in record {
-      room = (whole_room args.p (words args.cells.now args.remember.now args.tables.now) c.requires.whole_for (omega arith));
-      t_lt_threads = (c.requires.t_lt_threads.3, c.requires.t_lt_threads.2);
-    }
+pub read_var-x-requires-clause-room : goal.read_var-x-requires-clause-room
+read_var-x-requires-clause-room c =
+    let args = c.args in
+    whole_room args.p (words args.cells.now args.remember.now args.tables.now) c.requires.whole_for (omega arith)
 
-pub write_var-requires : goal.write_var-requires
-write_var-requires c =
-    let args = c.args in record {
-      room = (whole_room args.p (words args.cells.now args.remember.now args.tables.now) c.requires.whole_for (omega arith));
-      t_lt_threads = (c.requires.t_lt_threads.0, c.requires.t_lt_threads.1);
-    }
+pub write_var-requires-clause-room : goal.write_var-requires-clause-room
+write_var-requires-clause-room c =
+    let args = c.args in
+    whole_room args.p (words args.cells.now args.remember.now args.tables.now) c.requires.whole_for (omega arith)
 
-pub returns : goal.returns
-returns c =
+pub returns-clause-does : goal.returns-clause-does
+returns-clause-does c =
     let args = c.args in
     let read-var = c.read_var-x in
-    let write-var = c.write_var in record {
-      does = copy_done args.p args.cells.now args.remember.now args.tables.now c.requires.whole_for args.t args.a args.b args.c c.requires.t_lt_threads.0
-          c.requires.t_lt_threads.1 c.requires.t_lt_threads.2 c.requires.t_lt_threads.3 read-var.result read-var.ensures write-var.ensures;
-      none_freed = none-freed-before args.p args.tables.now (variable_at args.p args.t args.a) _ (variable-low args.p args.t args.a c.requires.t_lt_threads.0 c.requires.t_lt_threads.1) write-var.ensures;
-    }
+    let write-var = c.write_var in
+    copy_done args.p args.cells.now args.remember.now args.tables.now c.requires.whole_for args.t args.a args.b args.c c.requires.t_lt_threads.0
+    c.requires.t_lt_threads.1 c.requires.t_lt_threads.2 c.requires.t_lt_threads.3 read-var.result read-var.ensures write-var.ensures
+
+pub returns-clause-none_freed : goal.returns-clause-none_freed
+returns-clause-none_freed c =
+    let args = c.args in
+    let write-var = c.write_var in
+    none-freed-before args.p args.tables.now (variable_at args.p args.t args.a) _ (variable-low args.p args.t args.a c.requires.t_lt_threads.0 c.requires.t_lt_threads.1) write-var.ensures

@@ -5,19 +5,15 @@ use Rattle.promises.specs.Reading.{whole_room}
 use Rattle.commands.specs.Variables.{same-done}
 use Rattle.commands.proofs.variables.same.Goals as goal
 
-pub read_var-x-requires : goal.read_var-x-requires
-read_var-x-requires c =
-    let args = c.args in record {
-      room = (whole_room args.p (words args.cells.now args.remember.now args.tables.now) c.requires.whole_for (omega arith));
-      t_lt_threads = (c.requires.t_lt_threads.0, c.requires.t_lt_threads.1);
-    }
+pub read_var-x-requires-clause-room : goal.read_var-x-requires-clause-room
+read_var-x-requires-clause-room c =
+    let args = c.args in
+    whole_room args.p (words args.cells.now args.remember.now args.tables.now) c.requires.whole_for (omega arith)
 
-pub read_var-y-requires : goal.read_var-y-requires
-read_var-y-requires c =
-    let args = c.args in record {
-      room = (whole_room args.p (words args.cells.now args.remember.now args.tables.now) c.requires.whole_for (omega arith));
-      t_lt_threads = (c.requires.t_lt_threads.0, c.requires.t_lt_threads.2);
-    }
+pub read_var-y-requires-clause-room : goal.read_var-y-requires-clause-room
+read_var-y-requires-clause-room c =
+    let args = c.args in
+    whole_room args.p (words args.cells.now args.remember.now args.tables.now) c.requires.whole_for (omega arith)
 
 pub returns : goal.returns
 returns c =
