@@ -1,5 +1,6 @@
 // The holders at the end of region r: all variables, and the remembered slots that point into r, which the chain of r leads to (02, W6).
-// Those that call for one region are pushed in one pass over both.
+// Those that call for one region are pushed in one pass over both. What calls for another reads as null, the word 0, which a push
+// passes over.
 ghost use Rattle.std.specs.Prelude.{◌≡◌, List, ℕ, ◌<◌, ◌≤◌, length};
 ghost use Rattle.rules.specs.Regions.{regions};
 ghost use Rattle.lists.specs.Says.{Says};
