@@ -3,8 +3,9 @@
 use Rattle.std.specs.Prelude.{◌≡◌, refl, ℕ, zero, suc, ◌+◌, ◌-◌, ◌^◌, ◌≤◌, ◌<◌}
 use Rattle.std.proofs.Common.{sym, ap, ◌∙◌, subst, arith, pow_pos}
 use Rattle.std.proofs.Math.Decide.{ℕ_discrete, dec_lt}
-use Rattle.std.specs.Int.Count.{count_trailing_zeros}
+use Rattle.std.specs.Int.Count.{ones, count_trailing_zeros}
 use Rattle.lists.specs.Bits.{bit_at, bit-zero, clear-same, clear-other, trailing-low, Lowest, lowest}
+use Rattle.lists.specs.SetBits.{Walked, walk-lowest}
 use Rattle.layout.specs.Cells.{page_cells}
 
 -- left is w from some place on, and Done holds there
@@ -25,6 +26,10 @@ pass-to w Done passes a zero h off d = subst Done (let e : a ≡ a + 0 = omega a
 pass-to w Done passes a (suc k) h off d =
     subst Done (let e : a + k + 1 ≡ a + suc k = omega arith in e)
     (passes (a + k) (omega arith) (off (a + k) (omega arith) (omega arith)) (pass-to w Done passes a k (omega arith) (λ i l m. off i l (omega arith)) d))
+
+-- some are left while fewer than all are passed
+pub walk-some : {w left k : ℕ} → Walked w left k → k < ones w → 0 < left
+walk-some {left = left} h l = omega (arith, (walk-lowest h l).le, pow_pos (count_trailing_zeros 32 left))
 
 pub walk-begin : {w : ℕ} {Done : ℕ → Type 0} → w < 2 ^ page_cells → Done 0 → Walk w w Done
 walk-begin l d =
@@ -74,9 +79,6 @@ module _ {w left : ℕ} {Done : ℕ → Type 0} (h : Walk w left Done) where
       gone-below : (j : ℕ) → j < count_trailing_zeros 32 left + 1 → Dec (j ≡ count_trailing_zeros 32 left) → bit_at (left - 2 ^ count_trailing_zeros 32 left) j ≡ 0
       gone-below j m (yes s) = ap (bit_at (left - 2 ^ count_trailing_zeros 32 left)) s ∙ clear-same (count_trailing_zeros 32 left) left (walk-bit l).on
       gone-below j m (no s) = clear-other (count_trailing_zeros 32 left) j left (walk-bit l).on s ∙ trailing-low 32 left j (omega arith)
-
-  pub walk-less : (left' : ℕ) → 0 < left → left' ≡ left - 2 ^ count_trailing_zeros 32 left → left' < left
-  walk-less left' l e = omega (arith, (walk-bit l).le, pow_pos (count_trailing_zeros 32 left))
 
   -- none is left
   pub walk-over : Passes w Done → left ≤ 0 → Done page_cells

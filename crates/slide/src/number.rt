@@ -1,5 +1,5 @@
 // Each kept cell is told its new place: the kept cells are numbered in rising order, and number k goes to place k of the listed pages.
-ghost use Rattle.std.specs.Prelude.{◌≡◌, ℕ, ◌/◌, ◌<◌, ◌≤◌, length, get_or};
+ghost use Rattle.std.specs.Prelude.{◌≡◌, ◌/◌, ◌<◌, ◌≤◌, length, get_or};
 ghost use Rattle.layout.specs.Cells.{first_on, page_cells};
 ghost use Rattle.layout.specs.Places.{Room, cells_words};
 ghost use Rattle.rules.specs.Pages.{place_in};
@@ -13,7 +13,7 @@ fn place_in(list: &[u32], k: usize) -> usize
     requires { (k / page_cells < length list.now) × (get_or list.now (k / page_cells) 0 < 1024) }
     ensures { result ≡ place_in list.now k }
 {
-    let page = layout::wide(list[k / layout::cells::CELLS]);
+    let page = list[k / layout::cells::CELLS] as usize;
     layout::cells::cell_on(page, k % layout::cells::CELLS)
 }
 
@@ -28,34 +28,31 @@ fn number_page(
 ) -> usize
     requires room { Room p (length tables.now) }
     requires p_in_bounds { cells_words p ≤ length cells.old }
-    requires by_index { (n : ℕ) × MarksListed p n list.now tables.now }
+    requires marks_listed { MarksListed p (length list.now) list.now tables.now }
     requires page_lt_pages { (page < p.pages) × (before ≡ rank p tables.now (first_on page)) }
     ensures { NumberedHere p list.now tables.now page cells.old cells.new result page_cells }
 {
     let mut left = layout::tables::mark(p, tables, page);
-    let mut k = before;
-    while 0 < left {
-        let i = u32::trailing_zeros(left);
-        let cell = layout::cells::cell_on(page, layout::wide(i));
+    let after = before + left.count_ones() as usize;
+    for k in before..after {
+        let i = left.trailing_zeros();
+        let cell = layout::cells::cell_on(page, i as usize);
         layout::cells::set_work(cells, cell, layout::cells::ref_to(place_in(list, k)));
         left = layout::bits::without_bit(left, i);
-        k += 1;
     }
-    k
+    after
 }
 
 // The kept cells of all listed pages. The answer is how many there are.
-pub fn number_kept(p: Sizes, cells: &mut [u32], tables: &[u32], list: &[u32], n: usize) -> usize
+pub fn number_kept(p: Sizes, cells: &mut [u32], tables: &[u32], list: &[u32]) -> usize
     requires room { Room p (length tables.now) }
     requires p_in_bounds { cells_words p ≤ length cells.old }
-    requires marks_listed { MarksListed p n list.now tables.now }
+    requires marks_listed { MarksListed p (length list.now) list.now tables.now }
     ensures { Numbered p list.now tables.now cells.old cells.new result }
 {
-    let mut k: usize = 0;
-    let mut i: usize = 0;
-    while i < n {
-        k = number_page(p, cells, tables, list, layout::wide(list[i]), k);
-        i += 1;
+    let mut k = 0;
+    for page in list {
+        k = number_page(p, cells, tables, list, *page as usize, k);
     }
     k
 }

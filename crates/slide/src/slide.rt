@@ -1,6 +1,6 @@
 // The kept cells go to their places, in rising order and in place: no place lies above its cell, so nothing is written over that is still
 // to go.
-ghost use Rattle.std.specs.Prelude.{ℕ, ◌<◌, ◌≤◌, length, get_or};
+ghost use Rattle.std.specs.Prelude.{◌<◌, ◌≤◌, length, get_or};
 ghost use Rattle.layout.specs.Cells.{work_of, cell_named, first_on, page_cells, CellIn};
 ghost use Rattle.layout.specs.Places.{Room, cells_words};
 ghost use Rattle.slide.specs.Ranks.{MarksListed};
@@ -26,30 +26,28 @@ fn slide_cell(cells: &mut [u32], cell: usize)
 fn slide_page(p: Sizes, cells: &mut [u32], tables: &[u32], list: &[u32], at: usize)
     requires room { Room p (length tables.now) }
     requires p_in_bounds { cells_words p ≤ length cells.old }
-    requires by_index { (n : ℕ) × (at < n) × MarksListed p n list.now tables.now }
+    requires listed { (at < length list.now) × MarksListed p (length list.now) list.now tables.now }
     requires named_from { NamedFrom p list.now tables.now (first_on (get_or list.now at 0)) cells.old }
     ensures { SlidHere p list.now tables.now (get_or list.now at 0) cells.old cells.new page_cells }
 {
-    let page = layout::wide(list[at]);
+    let page = list[at] as usize;
     let mut left = layout::tables::mark(p, tables, page);
-    while 0 < left {
-        let i = u32::trailing_zeros(left);
-        slide_cell(cells, layout::cells::cell_on(page, layout::wide(i)));
+    for _ in 0..left.count_ones() {
+        let i = left.trailing_zeros();
+        slide_cell(cells, layout::cells::cell_on(page, i as usize));
         left = layout::bits::without_bit(left, i);
     }
 }
 
 // The kept cells of all listed pages.
-pub fn slide_kept(p: Sizes, cells: &mut [u32], tables: &[u32], list: &[u32], n: usize)
+pub fn slide_kept(p: Sizes, cells: &mut [u32], tables: &[u32], list: &[u32])
     requires room { Room p (length tables.now) }
     requires p_in_bounds { cells_words p ≤ length cells.old }
-    requires marks_listed { MarksListed p n list.now tables.now }
+    requires marks_listed { MarksListed p (length list.now) list.now tables.now }
     requires named_from { NamedFrom p list.now tables.now 0 cells.old }
     ensures { Slid p list.now tables.now cells.old cells.new }
 {
-    let mut i: usize = 0;
-    while i < n {
-        slide_page(p, cells, tables, list, i);
-        i += 1;
+    for at in 0..list.len() {
+        slide_page(p, cells, tables, list, at);
     }
 }

@@ -1,23 +1,12 @@
 // The listed pages are trimmed to the kept cells, which lie at their first places: what lies behind becomes zero, and a page without a cell
 // becomes free.
-ghost use Rattle.std.specs.Prelude.{◌≡◌, ℕ, ◌<◌, ◌≤◌, min, length, get_or};
+ghost use Rattle.std.specs.Prelude.{ℕ, ◌<◌, ◌≤◌, length, get_or};
 ghost use Rattle.lists.specs.Part.{Rises};
 ghost use Rattle.layout.specs.Cells.{head_at, cell_on, page_cells};
 ghost use Rattle.layout.specs.Places.{Room, cells_words, used_of};
 ghost use Rattle.slide.specs.Trimmed.{CellsCleared, PageWords, Trimmed};
 
 use rules::Sizes;
-
-// How many of so many cells go on one page.
-fn on_one_page(cells: usize) -> usize
-    ensures { result ≡ min cells page_cells }
-{
-    if cells < layout::cells::CELLS {
-        cells
-    } else {
-        layout::cells::CELLS
-    }
-}
 
 // The cells of a page from one place up to another become zero, if there are any.
 fn trim_cells(cells: &mut [u32], page: usize, from: usize, to: usize)
@@ -43,29 +32,20 @@ fn trim_words(p: Sizes, tables: &mut [u32], page: usize, left: u32)
 }
 
 // The listed pages hold so many kept cells.
-pub fn trim_pages(
-    p: Sizes,
-    cells: &mut [u32],
-    tables: &mut [u32],
-    list: &[u32],
-    n: usize,
-    kept: usize,
-)
+pub fn trim_pages(p: Sizes, cells: &mut [u32], tables: &mut [u32], list: &[u32], kept: usize)
     requires room { Room p (length tables.old) }
     requires p_in_bounds { cells_words p ≤ length cells.old }
-    requires rises { Rises p.pages n list.now }
-    requires by_index { (j : ℕ) → j < n → used_of p tables.old (get_or list.now j 0) ≤ page_cells }
-    ensures { Trimmed p list.now n kept cells.old tables.old cells.new tables.new }
+    requires rises { Rises p.pages (length list.now) list.now }
+    requires by_index { (j : ℕ) → j < length list.now → used_of p tables.old (get_or list.now j 0) ≤ page_cells }
+    ensures { Trimmed p list.now (length list.now) kept cells.old tables.old cells.new tables.new }
 {
     let mut rest = kept;
-    let mut j: usize = 0;
-    while j < n {
-        let page = layout::wide(list[j]);
-        let left = on_one_page(rest);
-        let used = layout::wide(layout::tables::used(p, tables, page));
+    for page in list {
+        let page = *page as usize;
+        let left = rest.min(layout::cells::CELLS);
+        let used = layout::tables::used(p, tables, page) as usize;
         trim_cells(cells, page, left, used);
         trim_words(p, tables, page, left as u32);
         rest -= left;
-        j += 1;
     }
 }
