@@ -1,8 +1,10 @@
 -- The rows in a lent list, and what the questions give.
-use Rattle.std.specs.Prelude.{◌≡◌, ℕ, suc, ◌<◌, ◌≤◌, List, ◌++◌, length, drop}
+use Rattle.std.specs.Prelude.{◌≡◌, ℕ, suc, ◌<◌, ◌≤◌, List, ◌++◌, length, take, drop}
 use Rattle.std.proofs.Common.{arith, subst, ◌∙◌}
 use Rattle.std.proofs.Math.Path.{refl, sym, ap}
 use Rattle.std.proofs.Math.ListN.{length-map}
+use Rattle.std.proofs.Math.Seq.{length-take-le}
+use Rattle.std.proofs.lemmas.List.{append-nil, drop_all}
 use Rattle.rules.specs.Graph.{crossing, free_pages}
 use Rattle.rules.specs.Rules.{graph}
 use Rattle.rules.specs.declared.Sizes.{Sizes}
@@ -72,6 +74,14 @@ module _ (l : Slices) (room : ℕ) where
         record { asked = accepted refl k (omega (arith, counted, these-length w)); result = reporting-same n-is f-is x-is m-is d-is v-is }
 
 -- ---- rows written as asked for
+
+-- the first n rows of those lent, each written, and the rest
+pub written_part : (r lent : List Row) (n : ℕ) → n ≤ length lent → written r (length (take n lent)) (take n lent) ++ drop n lent ≡ written r n lent
+unfolding written
+written_part r lent n l =
+    ap (λ (k : ℕ). written r k (take n lent) ++ drop n lent) (length-take-le n lent l)
+    ∙ ap (λ (d : List Row). (take n r ++ d) ++ drop n lent) (drop_all n (take n lent) (omega (arith, length-take-le n lent l)))
+    ∙ ap (λ (t : List Row). t ++ drop n lent) (append-nil (take n r))
 
 module _ (l : Slices) (lent : List Row) (r : Reported) (k : Asking l (length lent) r) where
   abbrev w : Words

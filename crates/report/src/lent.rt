@@ -73,13 +73,13 @@ fn open_after(tables: &[u32], region: usize) -> usize
     next_open(layout::read_sizes(tables), tables, region)
 }
 
-// The first n rows are written, and the rest stay.
-fn fill(rows: &mut [Row], tables: &[u32], n: usize)
-    requires { (n ≤ length rows.old) × (n ≤ length (rows_in (sizes_at tables.now) tables.now)) × (0 < n → WholeTables (sizes_at tables.now) tables.now) }
-    ensures { rows.new ≡ written (rows_in (sizes_at tables.now) tables.now) n rows.old }
+// The rows are written, as many as there are to write.
+fn fill(rows: &mut [Row], tables: &[u32])
+    requires { (length rows.old ≤ length (rows_in (sizes_at tables.now) tables.now)) × (0 < length rows.old → WholeTables (sizes_at tables.now) tables.now) }
+    ensures { rows.new ≡ written (rows_in (sizes_at tables.now) tables.now) (length rows.old) rows.old }
 {
     let mut region: usize = 1;
-    for row in &mut rows[..n] {
+    for row in rows {
         *row = row_in(tables, region);
         region = open_after(tables, region);
     }
@@ -99,7 +99,7 @@ pub fn taldreku_report(
 {
     match ask(cells, remember, tables, chains, rows.len()) {
         Ok(reported) => {
-            fill(rows, tables, reported.rows as usize);
+            fill(&mut rows[..reported.rows as usize], tables);
             reported
         }
         Err(refusal) => refused(refusal.number()),
