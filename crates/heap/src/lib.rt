@@ -2,6 +2,7 @@
 #![tactic(auto)]
 
 ghost use Rattle.std.specs.Prelude.{◌≡◌, ◌+◌, ◌*◌, ◌<◌, ◌≤◌, length};
+ghost use Rattle.rules.specs.Refusals.{asked};
 ghost use Rattle.layout.specs.Words.{words};
 ghost use Rattle.chains.specs.Chains.{ChainsWhole, with_chains};
 ghost use Rattle.promises.specs.Whole.{WholeFor};
@@ -10,7 +11,7 @@ ghost use Rattle.promises.specs.Promises.{DidHere, Ran, RunAsked, command_at};
 ghost use Rattle.pages.specs.Noted.{Noted};
 
 use commands::Obeyed;
-use rules::{Answer, Command, Sizes};
+use rules::{Answer, Command, Refusal, Sizes};
 
 // One command: what `commands` answers, the end of an epoch, or a collection, to which its thread means nothing.
 fn obey(
@@ -32,7 +33,7 @@ fn obey(
     let o = commands::obey::obey(p, cells, remember, tables, chains, notes, m);
     match o {
         Obeyed::Answered(a) => a,
-        Obeyed::Ends(t) => epoch::end(p, cells, remember, tables, chains, notes, layout::wide(t)),
+        Obeyed::Ends(t) => epoch::end(p, cells, remember, tables, chains, notes, t as usize),
         Obeyed::Collects(_) => collect::collect(p, cells, remember, tables, chains, notes),
     }
 }
@@ -94,18 +95,15 @@ fn obey_block(
     ensures { Ran (slices cells.old remember.old tables.old chains.old) block.now answers.old 0 (slices cells.new remember.new tables.new chains.new) answers.new }
 {
     let p = layout::read_sizes(tables);
-    let n = block.len() / 5;
     let mut notes = [0u32; 130];
-    let mut i: usize = 0;
-    while i < n {
+    for i in 0..block.len() / 5 {
         let a = obey_at(p, cells, remember, tables, chains, &mut notes, block, i);
         answers[2 * i] = a.number;
         answers[2 * i + 1] = a.value;
-        i += 1;
     }
 }
 
-// Questions 3, 16, 4 and 5: the number of the first that says no, 0 if none does.
+// Questions 3, 16, 4 and 5: the first that says no, if one does.
 fn ask(
     cells: &[u32],
     remember: &[u32],
@@ -113,22 +111,22 @@ fn ask(
     chains: &[u32],
     block: &[u32],
     answers: &[u32],
-) -> u32
-    ensures { RunAsked (slices cells.now remember.now tables.now chains.now) block.now answers.now result }
+) -> Result<(), Refusal>
+    ensures { RunAsked (slices cells.now remember.now tables.now chains.now) block.now answers.now (asked result) }
 {
     if !whole::whole(cells, remember, tables) {
-        return 3;
+        return Err(Refusal::NotWhole);
     }
     if !chains::chains_whole(layout::read_sizes(tables), remember, chains) {
-        return 16;
+        return Err(Refusal::Chains);
     }
     if block.len() % 5 != 0 {
-        return 4;
+        return Err(Refusal::Block);
     }
     if answers.len() < 2 * (block.len() / 5) {
-        return 5;
+        return Err(Refusal::Answers);
     }
-    0
+    Ok(())
 }
 
 // Obeys the commands of a block and writes number and value for each. Gives 0; or on refusal, with slices and answers untouched, 3 for
@@ -144,9 +142,8 @@ pub fn taldreku_run(
 ) -> u32
     ensures { Ran (slices cells.old remember.old tables.old chains.old) block.now answers.old result (slices cells.new remember.new tables.new chains.new) answers.new }
 {
-    let q = ask(cells, remember, tables, chains, block, answers);
-    if q != 0 {
-        return q;
+    if let Err(refusal) = ask(cells, remember, tables, chains, block, answers) {
+        return refusal.number();
     }
     obey_block(cells, remember, tables, chains, block, answers);
     0

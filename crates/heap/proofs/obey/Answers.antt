@@ -1,7 +1,5 @@
 -- What `commands` answers is the answer; an end or a collection starts from the words as they were.
-use Rattle.std.proofs.Common.{sym, ap, ◌∙◌}
 use Rattle.chains.proofs.Walking.{whole_long}
-use Rattle.commands.specs.declared.Obeyed.TheVariants.{Ends}
 use Rattle.heap.specs.Running.{obeyed-answered, left_end, left-collection, left-whole, left-did, chains-there, chains-over}
 use Rattle.heap.proofs.obey.Goals as goal
 
@@ -12,8 +10,7 @@ pub end-requires : goal.end-requires
 end-requires c =
     let args = c.args in
     let obey = c.obey-o in
-    let wide = c.wide in
-    let l = left_end args.p obey.result obey.ensures.obeys (c.in-Ends.is ∙ ap Ends (sym wide.ensures)) in
+    let l = left_end args.p obey.result obey.ensures.obeys c.in-Ends.is in
     let r = left-whole c.requires.whole_for l in record {
       whole_for = r;
       thread_lt_threads = l.within;
@@ -45,9 +42,8 @@ pub returns-in-Ends : goal.returns-in-Ends
 returns-in-Ends c =
     let args = c.args in
     let obey = c.obey-o in
-    let wide = c.wide in
     let end = c.end in
-    let l = left_end args.p obey.result obey.ensures.obeys (c.in-Ends.is ∙ ap Ends (sym wide.ensures)) in record {
+    let l = left_end args.p obey.result obey.ensures.obeys c.in-Ends.is in record {
       did_here = left-did l end.ensures.did_here;
       chains_after = chains-over args.chains.now (left-whole c.requires.whole_for l) obey.ensures.chains_after _ end.ensures.chains_after;
       noted_2 = end.ensures.noted_2;

@@ -12,52 +12,29 @@ read_sizes-p-requires c = sizes-there (asked-whole c.requires refl).words.sized
 pub loop-i-init : goal.loop-i-init
 loop-i-init c =
     let ready = whole_ready (asked-whole c.requires refl) c.read_sizes-p.ensures in
-    (turn-start ready.0 ready.1 (asked-room c.requires), refl, omega arith, refl, noted-start _ _ _ (omega arith) refl)
+    (turn-start ready.0 ready.1 (asked-room c.requires), refl, noted-start _ _ _ (omega arith) refl)
 
 pub obey_at-a-requires : goal.obey_at-a-requires
 obey_at-a-requires c =
     let inv = c.loop-i.invariant in record {
       whole_for = turn-ready inv.0;
       chains_whole = turn-chains inv.0;
-      noted = inv.4;
-      i_bound = omega (arith, inv.1, inv.2);
+      noted = inv.2;
+      i_bound = omega arith;
     }
 
-pub overflow_mul-answers : goal.overflow_mul-answers
-overflow_mul-answers c = omega (arith, c.loop-i.invariant.1, c.loop-i.invariant.2)
-
-pub offset_bounds-answers-i : goal.offset_bounds-answers-i
-offset_bounds-answers-i c = omega (arith, c.loop-i.invariant.1, c.loop-i.invariant.2)
-
 pub bounds-answers-i : goal.bounds-answers-i
-bounds-answers-i c = omega (arith, turn-fits c.loop-i.invariant.0 (omega (arith, c.loop-i.invariant.1)))
-
-pub overflow_mul-answers-in-loop-i : goal.overflow_mul-answers-in-loop-i
-overflow_mul-answers-in-loop-i c = omega (arith, c.loop-i.invariant.1, c.loop-i.invariant.2)
-
-pub overflow_add-answers : goal.overflow_add-answers
-overflow_add-answers c = omega (arith, c.loop-i.invariant.1, c.loop-i.invariant.2)
-
-pub offset_bounds-answers-i-in-loop-i : goal.offset_bounds-answers-i-in-loop-i
-offset_bounds-answers-i-in-loop-i c = omega (arith, c.loop-i.invariant.1, c.loop-i.invariant.2)
+bounds-answers-i c = omega (arith, turn-fits c.loop-i.invariant.0 (omega arith))
 
 pub bounds-answers-i-in-loop-i : goal.bounds-answers-i-in-loop-i
-bounds-answers-i-in-loop-i c = lt-length-set c.loop-i.answers (2 * c.loop-i.i) _ (turn-fits c.loop-i.invariant.0 (omega (arith, c.loop-i.invariant.1)))
-
-pub overflow_add-i : goal.overflow_add-i
-overflow_add-i c = omega (arith, c.loop-i.invariant.1, c.loop-i.invariant.2)
-
-pub loop-i-smaller : goal.loop-i-smaller
-loop-i-smaller c = omega (arith, c.loop-i.invariant.1)
+bounds-answers-i-in-loop-i c = lt-length-set c.loop-i.answers (2 * c.loop-i.i) _ (turn-fits c.loop-i.invariant.0 (omega arith))
 
 pub loop-i-preserved : goal.loop-i-preserved
 loop-i-preserved c =
     let loop = c.loop-i in
     let obey-at = c.obey_at-a in (
-      turn_more loop.invariant.0 (omega (arith, loop.invariant.1, c.loop-i-test.true)) obey-at.ensures.did_here obey-at.ensures.chains_after obey-at.auto.chains,
-      loop.invariant.1,
-      loop.invariant.2,
-      obey-at.auto.notes ∙ loop.invariant.3,
+      turn_more loop.invariant.0 c.loop-i-test.true obey-at.ensures.did_here obey-at.ensures.chains_after obey-at.auto.chains,
+      obey-at.auto.notes ∙ loop.invariant.1,
       obey-at.ensures.noted_2,
     )
 
@@ -77,4 +54,4 @@ pub shape_of-answers : goal.shape_of-answers
 shape_of-answers c = c.loop-i.invariant.0.looped.spare.long
 
 pub returns : goal.returns
-returns c = looped-found c.requires c.read_sizes-p.ensures c.loop-i.invariant.0 (omega (arith, c.loop-i.invariant.1))
+returns c = looped-found c.requires c.read_sizes-p.ensures c.loop-i.invariant.0 (omega arith)
