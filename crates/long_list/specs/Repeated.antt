@@ -33,38 +33,19 @@ filled_more {commands} {b} {k} {i} f m =
 pub filled-to : {commands b k : List ℕ} {i j : ℕ} → Filled commands b k i → i ≡ j → Filled commands b k j
 filled-to {commands} {b} {k} f e = subst (Filled commands b k) e f
 
--- 1 if answer i has this number and this value, else 0
-unfoldable pub is_answer : List ℕ → ℕ → ℕ → ℕ → ℕ
-is_answer answers number value i = bit (eqb (get_or answers (2 * i) 0) number && eqb (get_or answers (2 * i + 1) 0) value)
+-- whether answer i has this number and this value
+unfoldable pub is_answer : List ℕ → ℕ → ℕ → ℕ → Bool
+is_answer answers number value i = eqb (get_or answers (2 * i) 0) number && eqb (get_or answers (2 * i + 1) 0) value
 
 -- how many answers have them
 unfoldable pub answers_of : List ℕ → ℕ → ℕ → ℕ
-answers_of answers number value = sum (is_answer answers number value) (length answers / 2)
-
-module _ (answers : List ℕ) (number value i : ℕ) where
-  pub other-number : (get_or answers (2 * i) 0 ≡ number → ⊥) → 0 ≡ is_answer answers number value i
-  unfolding is_answer
-  other-number n = sym (ap (λ (t : Bool). bit (t && eqb (get_or answers (2 * i + 1) 0) value)) (ne_eqb (get_or answers (2 * i) 0) number n))
-
-  pub other-value : get_or answers (2 * i) 0 ≡ number → (get_or answers (2 * i + 1) 0 ≡ value → ⊥) → 0 ≡ is_answer answers number value i
-  unfolding is_answer
-  other-value e n =
-      sym (ap₂ (λ (t u : Bool). bit (t && u)) (eq-eqb (get_or answers (2 * i) 0) number e) (ne_eqb (get_or answers (2 * i + 1) 0) value n))
-
-  pub same_answer : get_or answers (2 * i) 0 ≡ number → get_or answers (2 * i + 1) 0 ≡ value → 1 ≡ is_answer answers number value i
-  unfolding is_answer
-  same_answer e f =
-      sym (ap₂ (λ (t u : Bool). bit (t && u)) (eq-eqb (get_or answers (2 * i) 0) number e) (eq-eqb (get_or answers (2 * i + 1) 0) value f))
-
-  pub answer_le : is_answer answers number value i ≤ 1
-  unfolding is_answer
-  answer_le = bit-le-one (eqb (get_or answers (2 * i) 0) number && eqb (get_or answers (2 * i + 1) 0) value)
+answers_of answers number value = sum (λ i. bit (is_answer answers number value i)) (length answers / 2)
 
 -- n is their count as the code has it
 pub answers-few : (answers : List ℕ) (number value n : ℕ) → n ≡ answers_of answers number value → length answers ≤ 6000 → n ≤ 3000
 unfolding answers_of
 answers-few answers number value n e few =
-    omega (arith, sum-high (is_answer answers number value) 1 (length answers / 2) (λ i h. answer_le answers number value i))
+    omega (arith, sum-high (λ i. bit (is_answer answers number value i)) 1 (length answers / 2) (λ i h. bit-le-one (is_answer answers number value i)))
 
 -- the block was run n times, from the slices l and the answer slice lent to l' and a, and k answers had this number and this value
 pub data Repeated (block : List ℕ) (number value : ℕ) (l : Slices) (lent : List ℕ) : ℕ → Slices → List ℕ → ℕ → Type 0 where

@@ -15,37 +15,30 @@ fn fill(block: &mut [u32], commands: &[u32])
     requires { 0 < length commands.now }
     ensures { Filled commands.now block.old block.new (length block.old) }
 {
-    let mut i: usize = 0;
-    while i < block.len() {
-        block[i] = commands[i % commands.len()];
-        i += 1;
+    for (i, word) in block.iter_mut().enumerate() {
+        *word = commands[i % commands.len()];
     }
 }
 
-// 1 if answer i has this number and this value, else 0.
-fn is_answer(answers: &[u32], number: u32, value: u32, i: usize) -> usize
+// Whether answer i has this number and this value.
+#[tactic(auto, unfolding(crate::specs::Repeated::is_answer))]
+fn is_answer(answers: &[u32], number: u32, value: u32, i: usize) -> bool
     requires { 2 * i + 1 < length answers.now }
     ensures { result ≡ is_answer answers.now number value i }
 {
-    if answers[2 * i] != number {
-        return 0;
-    }
-    if answers[2 * i + 1] != value {
-        return 0;
-    }
-    1
+    answers[2 * i] == number && answers[2 * i + 1] == value
 }
 
 // How many answers have this number and this value.
 fn count(answers: &[u32], number: u32, value: u32) -> usize
     ensures { result ≡ answers_of answers.now number value }
 {
-    let answered = answers.len() / 2;
+    // a filter over the numbers and its count: tried, and its proof did not close
     let mut n: usize = 0;
-    let mut i: usize = 0;
-    while i < answered {
-        n += is_answer(answers, number, value, i);
-        i += 1;
+    for i in 0..answers.len() / 2 {
+        if is_answer(answers, number, value, i) {
+            n += 1;
+        }
     }
     n
 }
@@ -65,11 +58,9 @@ fn run_all(
     ensures { Repeated block.now number value (slices cells.old remember.old tables.old chains.old) answers.old 16 (slices cells.new remember.new tables.new chains.new) answers.new result }
 {
     let mut n: usize = 0;
-    let mut i: usize = 0;
-    while i < 16 {
+    for _ in 0..16u32 {
         heap::taldreku_run(cells, remember, tables, chains, block, answers);
         n += count(answers, number, value);
-        i += 1;
     }
     n
 }
