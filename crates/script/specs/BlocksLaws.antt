@@ -15,7 +15,7 @@ use Rattle.script.specs.declared.Step.{Step}
 use Rattle.script.specs.declared.Step.TheVariants.{More, Ended}
 use Rattle.script.specs.declared.Filled.{Filled}
 use Rattle.script.specs.declared.Filled.TheVariants.{Done, Full, Broken}
-use Rattle.script.specs.Reading.{started, next_of, end_of, step_of}
+use Rattle.script.specs.Reading.{digits, number, started, next_of, end_of, step_of}
 use Rattle.script.specs.TextLaws.{found, left}
 use Rattle.script.specs.FewCommands.{command_count}
 use Rattle.script.specs.Blocks.{words_put, filled}
@@ -91,9 +91,9 @@ Five (Ended (Err e)) = Unit {0}
 
 step-five : (r : Reader) (b : ℕ) → Five (step_of r b)
 unfolding step_of end_of
-step-five r b = go (eqb b 10) (not r.malformed && (r.digits && eqb r.complete 4))
+step-five r b = go (eqb b 10) (not r.malformed && ((digits r) && eqb r.complete 4))
   where
-    go : (s t : Bool) → Five (cond s (Ended (cond t (numbers r.first r.second r.third r.fourth r.number) malformed_line)) (More (next_of r b)))
+    go : (s t : Bool) → Five (cond s (Ended (cond t (numbers r.first r.second r.third r.fourth (number r)) malformed_line)) (More (next_of r b)))
     go true true = refl
     go true false = tt
     go false t = tt

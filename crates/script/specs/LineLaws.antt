@@ -12,7 +12,7 @@ use Rattle.script.specs.Text.{Line, malformed_line}
 use Rattle.script.specs.declared.Reader.{Reader}
 use Rattle.script.specs.Text.{onto, parts, is_digit, digits_only, value_from, value, some, is_number, numbers_only, numbered, parts_say, says}
 use Rattle.script.specs.ReadingCases.{spaced-bare, spaced-full, spaced-number, digited-large, digited-small}
-use Rattle.script.specs.Reading.{started, spoilt, completed, numbering, spaced, digited, next_of, end_of}
+use Rattle.script.specs.Reading.{digits, number, started, spoilt, completed, numbering, spaced, digited, next_of, end_of}
 
 -- ---- one line
 
@@ -29,7 +29,7 @@ value_grows n (b ∷ p) = omega (arith, value_grows (10 * n + (b - 48)) p)
 
 -- whether the reader's number, with these bytes behind it, is a number
 continues : Reader → List ℕ → Bool
-continues r p = (r.digits || some p) && (digits_only p && ltb (value_from r.number p) 4_294_967_296)
+continues r p = ((digits r) || some p) && (digits_only p && ltb (value_from (number r) p) 4_294_967_296)
 
 all-good : Reader → List ℕ → List (List ℕ) → Bool
 unfolding continues
@@ -40,7 +40,7 @@ after : Reader → List ℕ → List (List ℕ) → Line
 unfolding all-good
 after r p ps =
     cond (all-good r p ps)
-    (numbered (drop (length ps) (r.first ∷ r.second ∷ r.third ∷ r.fourth ∷ value_from r.number p ∷ map value ps)))
+    (numbered (drop (length ps) (r.first ∷ r.second ∷ r.third ∷ r.fourth ∷ value_from (number r) p ∷ map value ps)))
     malformed_line
 
 after-spoilt : (p : List ℕ) (ps : List (List ℕ)) → after spoilt p ps ≡ malformed_line
@@ -48,7 +48,7 @@ unfolding after all-good
 after-spoilt p ps = refl
 
 pub Small : Reader → Type 0
-Small r = r.number < 4_294_967_296
+Small r = (number r) < 4_294_967_296
 
 after-end : (r : Reader) → Small r → after r [] [] ≡ end_of r
 unfolding after all-good continues end_of Small digits_only value_from numbers_only
@@ -56,7 +56,7 @@ after-end r h = simp (or-false, and-true, lt-ltb _ _ h, add-zero)
 
 -- a space: the reader's number is complete
 module _ (r : Reader) (q : List ℕ) (ps : List (List ℕ)) where
-  space-bare : r.digits ≡ false → after r [] (q ∷ ps) ≡ malformed_line
+  space-bare : (digits r) ≡ false → after r [] (q ∷ ps) ≡ malformed_line
   unfolding after all-good continues
   space-bare d = simp (d, and-false)
 
@@ -66,36 +66,36 @@ module _ (r : Reader) (q : List ℕ) (ps : List (List ℕ)) where
       let e : eqb (r.complete + suc (length ps)) 4 ≡ false = ne_eqb (r.complete + suc (length ps)) 4 (omega arith) in
       simp (e, and-false)
 
-  space-number : r.digits ≡ true → Small r → after (completed r) q ps ≡ after r [] (q ∷ ps)
+  space-number : (digits r) ≡ true → Small r → after (completed r) q ps ≡ after r [] (q ∷ ps)
   unfolding after all-good continues digits_only value_from numbers_only Small
   space-number d h =
       let e : r.complete + 1 + length ps ≡ r.complete + suc (length ps) = omega arith in
       simp (d, lt-ltb _ _ h, e, and_assoc)
 
   after-space : Small r → after (spaced r) q ps ≡ after r [] (q ∷ ps)
-  after-space h = go r.digits refl (ltb r.complete 4) refl
+  after-space h = go (digits r) refl (ltb r.complete 4) refl
     where
-      go : (d : Bool) → r.digits ≡ d → (t : Bool) → ltb r.complete 4 ≡ t → after (spaced r) q ps ≡ after r [] (q ∷ ps)
+      go : (d : Bool) → (digits r) ≡ d → (t : Bool) → ltb r.complete 4 ≡ t → after (spaced r) q ps ≡ after r [] (q ∷ ps)
       go false d t e = ap (λ s. after s q ps) (spaced-bare r d) ∙ after-spoilt q ps ∙ sym (space-bare d)
       go true d false e = ap (λ s. after s q ps) (spaced-full r d (ltb-false _ _ e)) ∙ after-spoilt q ps ∙ sym (space-full (ltb-false _ _ e))
       go true d true e = ap (λ s. after s q ps) (spaced-number r d (ltb-true _ _ e)) ∙ space-number d h
 
 -- a digit of the reader's number, and any other byte
 module _ (r : Reader) (b : ℕ) (q : List ℕ) (ps : List (List ℕ)) where
-  digit-large : 4_294_967_296 ≤ 10 * r.number + (b - 48) → after r (b ∷ q) ps ≡ malformed_line
+  digit-large : 4_294_967_296 ≤ 10 * (number r) + (b - 48) → after r (b ∷ q) ps ≡ malformed_line
   unfolding after all-good continues value_from
   digit-large h =
-      let e : ltb (value_from (10 * r.number + (b - 48)) q) 4_294_967_296 ≡ false = le-ltb (value_from (10 * r.number + (b - 48)) q) 4_294_967_296 (omega (arith, value_grows (10 * r.number + (b - 48)) q)) in
+      let e : ltb (value_from (10 * (number r) + (b - 48)) q) 4_294_967_296 ≡ false = le-ltb (value_from (10 * (number r) + (b - 48)) q) 4_294_967_296 (omega (arith, value_grows (10 * (number r) + (b - 48)) q)) in
       simp (e, and-false)
 
-  digit-small : is_digit b ≡ true → after (numbering r (10 * r.number + (b - 48))) q ps ≡ after r (b ∷ q) ps
+  digit-small : is_digit b ≡ true → after (numbering r (10 * (number r) + (b - 48))) q ps ≡ after r (b ∷ q) ps
   unfolding after all-good continues value_from digits_only
   digit-small h = simp (h, or-true)
 
   after-digit : is_digit b ≡ true → after (digited r (b - 48)) q ps ≡ after r (b ∷ q) ps
-  after-digit h = go (ltb (10 * r.number + (b - 48)) 4_294_967_296) refl
+  after-digit h = go (ltb (10 * (number r) + (b - 48)) 4_294_967_296) refl
     where
-      go : (t : Bool) → ltb (10 * r.number + (b - 48)) 4_294_967_296 ≡ t → after (digited r (b - 48)) q ps ≡ after r (b ∷ q) ps
+      go : (t : Bool) → ltb (10 * (number r) + (b - 48)) 4_294_967_296 ≡ t → after (digited r (b - 48)) q ps ≡ after r (b ∷ q) ps
       go false e = ap (λ s. after s q ps) (digited-large r (b - 48) (ltb-false _ _ e)) ∙ after-spoilt q ps ∙ sym (digit-large (ltb-false _ _ e))
       go true e = ap (λ s. after s q ps) (digited-small r (b - 48) (ltb-true _ _ e)) ∙ digit-small h
 
@@ -117,8 +117,8 @@ small-next r b h = go (eqb b 32) (is_digit b)
     digit n false e = lit< tt
 
     go : (s d : Bool) → Small (cond s (spaced r) (cond d (digited r (b - 48)) spoilt))
-    go true d = spaces (r.digits && ltb r.complete 4)
-    go false true = digit (10 * r.number + (b - 48)) (ltb (10 * r.number + (b - 48)) 4_294_967_296) refl
+    go true d = spaces ((digits r) && ltb r.complete 4)
+    go false true = digit (10 * (number r) + (b - 48)) (ltb (10 * (number r) + (b - 48)) 4_294_967_296) refl
     go false false = lit< tt
 
 -- a line has a first part

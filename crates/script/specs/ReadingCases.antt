@@ -11,30 +11,30 @@ use Rattle.script.specs.declared.Step.TheVariants.{More, Ended}
 use Rattle.std.specs.Prelude.{None, Some}
 use Rattle.script.specs.declared.Scan.{Scan}
 use Rattle.script.specs.declared.Scan.TheVariants.{Open, Found}
-use Rattle.script.specs.Reading.{spoilt, completed, numbering, spaced, digited, next_of, end_of, step_of, fresh, last_of, scanned}
+use Rattle.script.specs.Reading.{digits, number, spoilt, completed, numbering, spaced, digited, next_of, end_of, step_of, fresh, last_of, scanned}
 
 module _ (r : Reader) where
   -- ---- a space
 
-  pub spaced-bare : r.digits ≡ false → spaced r ≡ spoilt
+  pub spaced-bare : (digits r) ≡ false → spaced r ≡ spoilt
   unfolding spaced
   spaced-bare d = simp d
 
-  pub spaced-full : r.digits ≡ true → 4 ≤ r.complete → spaced r ≡ spoilt
+  pub spaced-full : (digits r) ≡ true → 4 ≤ r.complete → spaced r ≡ spoilt
   unfolding spaced
   spaced-full d h = simp (d, le-ltb _ _ h)
 
-  pub spaced-number : r.digits ≡ true → r.complete < 4 → spaced r ≡ completed r
+  pub spaced-number : (digits r) ≡ true → r.complete < 4 → spaced r ≡ completed r
   unfolding spaced
   spaced-number d h = simp (d, lt-ltb _ _ h)
 
   -- ---- a digit
 
-  pub digited-large : (d : ℕ) → 4_294_967_296 ≤ 10 * r.number + d → digited r d ≡ spoilt
+  pub digited-large : (d : ℕ) → 4_294_967_296 ≤ 10 * (number r) + d → digited r d ≡ spoilt
   unfolding digited
   digited-large d h = simp (le-ltb _ _ h)
 
-  pub digited-small : (d : ℕ) → 10 * r.number + d < 4_294_967_296 → digited r d ≡ numbering r (10 * r.number + d)
+  pub digited-small : (d : ℕ) → 10 * (number r) + d < 4_294_967_296 → digited r d ≡ numbering r (10 * (number r) + d)
   unfolding digited
   digited-small d h = simp (lt-ltb _ _ h)
 
@@ -62,22 +62,22 @@ module _ (r : Reader) where
   unfolding end_of
   end-malformed m = simp m
 
-  pub end-bare : r.malformed ≡ false → r.digits ≡ false → end_of r ≡ malformed_line
+  pub end-bare : r.malformed ≡ false → (digits r) ≡ false → end_of r ≡ malformed_line
   unfolding end_of
   end-bare m d = simp (m, d)
 
-  pub end_short : r.malformed ≡ false → r.digits ≡ true → (r.complete ≡ 4 → ⊥) → end_of r ≡ malformed_line
+  pub end_short : r.malformed ≡ false → (digits r) ≡ true → (r.complete ≡ 4 → ⊥) → end_of r ≡ malformed_line
   unfolding end_of
   end_short m d n = simp (m, d, ne_eqb _ _ n)
 
-  pub end-numbers : r.malformed ≡ false → r.digits ≡ true → r.complete ≡ 4
-      → end_of r ≡ numbers r.first r.second r.third r.fourth r.number
+  pub end-numbers : r.malformed ≡ false → (digits r) ≡ true → r.complete ≡ 4
+      → end_of r ≡ numbers r.first r.second r.third r.fourth (number r)
   unfolding end_of
   end-numbers m d e = simp (m, d, eq-eqb _ _ e)
 
   -- ---- the end of the input
 
-  pub last-fresh : r.malformed ≡ false → r.digits ≡ false → r.complete ≡ 0 → last_of r ≡ None
+  pub last-fresh : r.malformed ≡ false → (digits r) ≡ false → r.complete ≡ 0 → last_of r ≡ None
   unfolding last_of fresh
   last-fresh m d e = simp (m, d, eq-eqb _ _ e)
 
@@ -85,11 +85,11 @@ module _ (r : Reader) where
   unfolding last_of fresh
   last-malformed m = simp m
 
-  pub last_digits : r.malformed ≡ false → r.digits ≡ true → last_of r ≡ Some (end_of r)
+  pub last_digits : r.malformed ≡ false → (digits r) ≡ true → last_of r ≡ Some (end_of r)
   unfolding last_of fresh
   last_digits m d = simp (m, d)
 
-  pub last-spaced : r.malformed ≡ false → r.digits ≡ false → (r.complete ≡ 0 → ⊥) → last_of r ≡ Some (end_of r)
+  pub last-spaced : r.malformed ≡ false → (digits r) ≡ false → (r.complete ≡ 0 → ⊥) → last_of r ≡ Some (end_of r)
   unfolding last_of fresh
   last-spaced m d n = simp (m, d, ne_eqb _ _ n)
 

@@ -11,7 +11,7 @@ use Rattle.std.specs.Prelude.{Option, None, Some}
 use Rattle.script.specs.declared.Scan.{Scan}
 use Rattle.script.specs.declared.Scan.TheVariants.{Open, Found}
 use Rattle.script.specs.Text.{onto, lines, is_digit, says, text_says}
-use Rattle.script.specs.Reading.{started, spoilt, completed, numbering, spaced, digited, next_of, end_of, step_of, fresh, last_of, scanned}
+use Rattle.script.specs.Reading.{digits, number, started, spoilt, completed, numbering, spaced, digited, next_of, end_of, step_of, fresh, last_of, scanned}
 use Rattle.script.specs.LineLaws.{ends, ends-says}
 
 -- the line that the end of the input brings
@@ -43,8 +43,8 @@ begun r b = go (eqb b 32) (is_digit b)
     digit false n = refl
 
     go : (s d : Bool) → fresh (cond s (spaced r) (cond d (digited r (b - 48)) spoilt)) ≡ false
-    go true d = spaces (r.digits && ltb r.complete 4)
-    go false true = digit (ltb (10 * r.number + (b - 48)) 4_294_967_296) (10 * r.number + (b - 48))
+    go true d = spaces ((digits r) && ltb r.complete 4)
+    go false true = digit (ltb (10 * (number r) + (b - 48)) 4_294_967_296) (10 * (number r) + (b - 48))
     go false false = refl
 
 finds-onto : (r : Reader) (b : ℕ) (ls : List (List ℕ)) → finds (next_of r b) ls ≡ finds r (onto b ls)

@@ -13,8 +13,8 @@ pub type Line = Result<[u32; 5], Malformed>;
 #[derive(Clone, Copy)]
 pub struct Malformed;
 
-// A line of which some bytes are read, whatever its length. `first` to `fourth` are the last four of its complete numbers, `number` is
-// the one after them as far as it is read, and `digits` says whether it has a digit yet.
+// A line of which some bytes are read, whatever its length. `first` to `fourth` are the last four of its complete numbers, and `number`
+// is the one after them as far as it is read, once it has a digit.
 #[derive(Clone, Copy)]
 pub struct Reader {
     first: u32,
@@ -22,8 +22,7 @@ pub struct Reader {
     third: u32,
     fourth: u32,
     complete: u32,
-    number: u32,
-    digits: bool,
+    number: Option<u32>,
     malformed: bool,
 }
 

@@ -14,8 +14,7 @@ pub fn start() -> Reader
         third: 0,
         fourth: 0,
         complete: 0,
-        number: 0,
-        digits: false,
+        number: None,
         malformed: false,
     }
 }
@@ -24,62 +23,49 @@ fn spoil() -> Reader
     ensures { result ≡ spoilt }
 {
     Reader {
-        first: 0,
-        second: 0,
-        third: 0,
-        fourth: 0,
-        complete: 0,
-        number: 0,
-        digits: false,
         malformed: true,
+        ..start()
     }
 }
 
 // A space completes a number, which has a digit and is not the fifth.
+#[tactic(auto, unfolding(crate::specs::Reading::spaced))]
 fn read_space(r: Reader) -> Reader
     ensures { result ≡ spaced r }
 {
-    if r.digits {
-        if 4 <= r.complete {
-            spoil()
-        } else {
-            Reader {
+    if let Some(number) = r.number {
+        if r.complete < 4 {
+            return Reader {
                 first: r.second,
                 second: r.third,
                 third: r.fourth,
-                fourth: r.number,
+                fourth: number,
                 complete: r.complete + 1,
-                number: 0,
-                digits: false,
+                number: None,
                 malformed: r.malformed,
-            }
+            };
         }
-    } else {
-        spoil()
     }
+    spoil()
 }
 
+#[tactic(auto, unfolding(crate::specs::Reading::digited))]
 fn read_digit(r: Reader, digit: u8) -> Reader
     requires { digit < 10 }
     ensures { result ≡ digited r digit }
 {
-    let value = 10 * r.number as u64 + digit as u64;
+    let value = 10 * r.number.unwrap_or(0) as u64 + digit as u64;
     if 4294967296 <= value {
         return spoil();
     }
     Reader {
-        first: r.first,
-        second: r.second,
-        third: r.third,
-        fourth: r.fourth,
-        complete: r.complete,
-        number: value as u32,
-        digits: true,
-        malformed: r.malformed,
+        number: Some(value as u32),
+        ..r
     }
 }
 
 // One more byte of the line, not its line feed.
+#[tactic(auto, unfolding(crate::specs::Reading::next_of))]
 fn read_byte(r: Reader, byte: u8) -> Reader
     ensures { result ≡ next_of r byte }
 {
@@ -100,14 +86,16 @@ fn read_byte(r: Reader, byte: u8) -> Reader
 fn end(r: Reader) -> Line
     ensures { result ≡ end_of r }
 {
-    if !r.malformed && r.digits && r.complete == 4 {
-        Ok([r.first, r.second, r.third, r.fourth, r.number])
-    } else {
-        Err(Malformed)
+    if let Some(number) = r.number {
+        if !r.malformed && r.complete == 4 {
+            return Ok([r.first, r.second, r.third, r.fourth, number]);
+        }
     }
+    Err(Malformed)
 }
 
 // One byte: the line goes on, or ends at a line feed.
+#[tactic(auto, unfolding(crate::specs::Reading::step_of))]
 pub fn step(r: Reader, byte: u8) -> Step
     ensures { result ≡ step_of r byte }
 {
@@ -123,7 +111,7 @@ pub fn step(r: Reader, byte: u8) -> Step
 fn is_fresh(r: Reader) -> bool
     ensures { result ≡ fresh r }
 {
-    !r.malformed && !r.digits && r.complete == 0
+    !r.malformed && r.number.is_none() && r.complete == 0
 }
 
 // The end of the input: none, or a line that has begun ends here, since the last line feed may be missing.
