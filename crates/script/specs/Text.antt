@@ -60,7 +60,7 @@ abbrev pub numbers : ℕ → ℕ → ℕ → ℕ → ℕ → Line
 numbers a b c d e = Ok (a ∷ b ∷ c ∷ d ∷ e ∷ [])
 
 abbrev pub malformed_line : Line
-malformed_line = Err (record { })
+malformed_line = Err (record {})
 
 abbrev pub numbered : List ℕ → Line
 numbered ns = numbers (get_or ns 0 0) (get_or ns 1 0) (get_or ns 2 0) (get_or ns 3 0) (get_or ns 4 0)

@@ -69,16 +69,11 @@ fn read_digit(r: Reader, digit: u8) -> Reader
 fn read_byte(r: Reader, byte: u8) -> Reader
     ensures { result ≡ next_of r byte }
 {
-    if byte == 32 {
-        return read_space(r);
+    match byte {
+        b' ' => read_space(r),
+        b'0'..=b'9' => read_digit(r, byte - b'0'),
+        _ => spoil(),
     }
-    if byte < 48 {
-        return spoil();
-    }
-    if 57 < byte {
-        return spoil();
-    }
-    read_digit(r, byte - 48)
 }
 
 // The line ends here.
