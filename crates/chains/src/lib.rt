@@ -2,7 +2,7 @@
 // most 1 + 16 × 8.
 #![tactic(auto)]
 
-ghost use Rattle.std.specs.Prelude.{◌≡◌, ◌++◌, Bool, true, ℕ, ◌+◌, ◌≤◌, ◌<◌, length, get_or, take, drop};
+ghost use Rattle.std.specs.Prelude.{◌≡◌, ◌++◌, Bool, true, ℕ, ◌+◌, ◌≤◌, ◌<◌, length, get_or, take, drop, MatchOption};
 ghost use Rattle.lists.specs.Says.{Says};
 ghost use Rattle.layout.specs.Places.{chains_words};
 ghost use Rattle.remember.specs.Table.{entries_in};
@@ -36,28 +36,21 @@ pub fn rebuild(p: Sizes, remember: &[u32], chains: &mut [u32])
     relink(p.entries, remember, layout::regions::last_region(p), chains);
 }
 
-// Whether each used entry's next word is right, from the last down; `first` starts as zero and ends as the first words.
-fn nexts_agree(
-    entries: usize,
-    remember: &[u32],
-    last: usize,
-    chains: &[u32],
-    first: &mut [u32],
-) -> bool
+// The first words, if each used entry's next word is right; from the last entry down.
+fn first_words(entries: usize, remember: &[u32], last: usize, chains: &[u32]) -> Option<[u32; 129]>
     requires listed { Listed last entries remember.now }
     requires entries_in_bounds { last + entries ≤ length chains.now }
-    requires last_in_bounds { (last ≤ length first.old) × ((r : ℕ) → r < last → get_or first.old r 0 ≡ 0) }
-    ensures says { Says result (NextsAgree last (entries_in entries remember.now) chains.now) }
-    ensures firsts { result ≡ true → Firsts last (entries_in entries remember.now) 0 first.new }
+    ensures { MatchOption result (NextsAgree last (entries_in entries remember.now) chains.now → ⊥) (λ first. NextsAgree last (entries_in entries remember.now) chains.now × (length first ≡ 129) × Firsts last (entries_in entries remember.now) 0 first) }
 {
+    let mut first = [0; 129];
     for i in (0..layout::remember::used(remember) as usize).rev() {
         let g = layout::remember::region(entries, remember, i) as usize;
-        if layout::chains::next(last, chains, i) != layout::chains::first(first, g) {
-            return false;
+        if layout::chains::next(last, chains, i) != layout::chains::first(&first, g) {
+            return None;
         }
-        layout::chains::set_first(first, g, (i + 1) as u32);
+        layout::chains::set_first(&mut first, g, (i + 1) as u32);
     }
-    true
+    Some(first)
 }
 
 // Whether all of the words are zero.
@@ -73,11 +66,11 @@ fn words_agree(entries: usize, remember: &[u32], last: usize, chains: &[u32]) ->
     requires entries_in_bounds { last + entries ≤ length chains.now }
     ensures { Says result (take (last + entries) chains.now ≡ chains_of last entries (entries_in entries remember.now)) }
 {
+    let Some(first) = first_words(entries, remember, last, chains) else {
+        return false;
+    };
     let used = layout::remember::used(remember) as usize;
-    let mut first = [0u32; 129];
-    nexts_agree(entries, remember, last, chains, &mut first)
-        && all_zero(&chains[last + used..last + entries])
-        && chains[..last] == first[..last]
+    all_zero(&chains[last + used..last + entries]) && chains[..last] == first[..last]
 }
 
 // Question 16: whether a slice is long enough, and has the chains of a remember table.

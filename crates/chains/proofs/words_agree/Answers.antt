@@ -3,11 +3,9 @@ use Rattle.std.specs.Prelude.{Bool, false, ℕ, ◌+◌, ◌-◌, ◌≤◌, ◌
 use Rattle.std.proofs.Common.{sym, ap, ◌∙◌, arith, ext_get_or, get_or-take, get_or-drop, length-take, length-drop}
 use Rattle.std.proofs.lemmas.Bool.Decides.{Decides-eqb}
 use Rattle.std.proofs.lemmas.Slice.Eq.{slice_eq-Decides}
-use Rattle.lists.specs.Says.{Says, said-no, true-not-false}
-use Rattle.remember.specs.TableWords.{zeros}
+use Rattle.lists.specs.Says.{Says, says-no, said-no, true-not-false}
 use Rattle.chains.proofs.Linking.{agree-nexts, agree-rest, agree-firsts, agree-all}
 use Rattle.chains.proofs.words_agree.Goals as goal
-use Rattle.chains.proofs.words_agree.Goals.{then-nexts_agree, else-nexts_agree}
 
 -- the words of a part of a list
 module _ (f : List ℕ) (a b : ℕ) (low : a ≤ b) (high : b ≤ length f) where
@@ -38,44 +36,34 @@ module _ (f w : List ℕ) (n : ℕ) (lf : n ≤ length f) (lw : n ≤ length w) 
 says-none : {P : Type 0} {b : Bool} → b ≡ false → (P → ⊥) → Says b P
 says-none e n = (λ q. absurd (true-not-false (sym e ∙ q)), λ p. absurd (n p))
 
-pub nexts_agree-requires-clause-last_in_bounds : goal.nexts_agree-requires-clause-last_in_bounds
-nexts_agree-requires-clause-last_in_bounds c = (c.requires.listed.few, λ r l. zeros 129 r)
+pub returns-in_default : goal.returns-in_default
+returns-in_default c =
+    let a = c.args in
+    says-no (λ e. c.in_default.ensures (agree-nexts a.last a.entries a.remember.now c.requires.listed.room a.chains.now c.requires.entries_in_bounds e))
 
 pub returns-then-all_zero : goal.returns-then-all_zero
 returns-then-all_zero c =
     let a = c.args in
     let t = c.requires.listed.room in
     let r = c.requires.entries_in_bounds in
-    let first = c.nexts_agree.new.first in
-    let few : a.last ≤ length first = omega (arith, c.requires.listed.few, c.nexts_agree.auto.first) in
-    let same = slice_eq-Decides Decides-eqb _ _ _ c.eq.ensures in
-    elim c.if-nexts_agree.branch [
-      | then-nexts_agree w ↦
-          let nexts = w.if-nexts_agree.true in
-          let firsts = c.nexts_agree.ensures.firsts nexts in
-          let zero = w.all_zero.ensures.0 (sym w.value-is ∙ c.if-all_zero.true) in (
-            λ q.
-                agree-all a.last a.entries a.remember.now t a.chains.now r first c.used-used.ensures (c.nexts_agree.ensures.says.0 nexts)
-                (zeros-in a.chains.now (a.last + c.used-used.result) (a.last + a.entries) (omega (arith, t, c.used-used.ensures)) r zero) firsts
-                (same-words a.chains.now first a.last (omega arith) few (same.0 q)),
-            λ e. same.1 (words-same a.chains.now first a.last (omega arith) few (agree-firsts a.last a.entries a.remember.now t a.chains.now r first firsts e)),
-          )
-      | else-nexts_agree w ↦ absurd (true-not-false (sym w.if-nexts_agree.false ∙ sym w.value-is ∙ c.if-all_zero.true))
-    ]
+    let s = c.in-Some.ensures in
+    let first = c.in-Some.first in
+    let few : a.last ≤ length first = omega (arith, c.requires.listed.few, s.1) in
+    let same = slice_eq-Decides Decides-eqb _ _ _ c.eq.ensures in (
+      λ q.
+          agree-all a.last a.entries a.remember.now t a.chains.now r first c.used-used.ensures s.0
+          (zeros-in a.chains.now (a.last + c.used-used.result) (a.last + a.entries) (omega (arith, t, c.used-used.ensures)) r (c.all_zero.ensures.0 c.if-all_zero.true)) s.2
+          (same-words a.chains.now first a.last (omega arith) few (same.0 q)),
+      λ e. same.1 (words-same a.chains.now first a.last (omega arith) few (agree-firsts a.last a.entries a.remember.now t a.chains.now r first s.2 e)),
+    )
 
 pub returns-else-all_zero : goal.returns-else-all_zero
 returns-else-all_zero c =
     let a = c.args in
     let t = c.requires.listed.room in
     let r = c.requires.entries_in_bounds in
-    elim c.if-nexts_agree.branch [
-      | then-nexts_agree w ↦
-          says-none c.if-all_zero.false
-          (λ e.
-          said-no w.all_zero.result w.all_zero.ensures (sym w.value-is ∙ c.if-all_zero.false)
-          (zeros-of a.chains.now (a.last + c.used-used.result) (a.last + a.entries) (omega (arith, t, c.used-used.ensures)) r
-          (agree-rest a.last a.entries a.remember.now t a.chains.now r c.used-used.ensures e)))
-      | else-nexts_agree w ↦
-          says-none c.if-all_zero.false
-          (λ e. said-no c.nexts_agree.result c.nexts_agree.ensures.says w.if-nexts_agree.false (agree-nexts a.last a.entries a.remember.now t a.chains.now r e))
-    ]
+    says-none c.if-all_zero.false
+    (λ e.
+    said-no c.all_zero.result c.all_zero.ensures c.if-all_zero.false
+    (zeros-of a.chains.now (a.last + c.used-used.result) (a.last + a.entries) (omega (arith, t, c.used-used.ensures)) r
+    (agree-rest a.last a.entries a.remember.now t a.chains.now r c.used-used.ensures e)))
