@@ -1,6 +1,6 @@
 -- One survivor is moved: a cell is taken, its words are copied, its mark goes to the upper half.
 use Rattle.std.specs.Prelude.{◌≡◌, refl, ◌≢◌, ◌⊎◌, List, [], ◌∷◌, ℕ, ◌+◌, ◌≤◌, ◌<◌, length, get_or, set}
-use Rattle.std.proofs.Common.{sym, ap, ap₂, ◌∙◌, subst, inl, inr, ⊎_elim, arith, length-set, get_or-set_same, get_or-set_other}
+use Rattle.std.proofs.Common.{sym, ap, ap₂, ◌∙◌, subst, inl, inr, ⊎_elim, arith, get_or-set_same, get_or-set_other}
 use Rattle.std.proofs.Math.Logic.{by_cases}
 use Rattle.std.proofs.Math.Decide.{ℕ_discrete}
 use Rattle.lists.specs.Bits.{bit_at}
@@ -9,7 +9,7 @@ use Rattle.rules.specs.Graph.{pages_of}
 use Rattle.rules.specs.declared.Sizes.{Sizes}
 use Rattle.rules.specs.Regions.{regions}
 use Rattle.layout.specs.Places.{Room, mark_at, owner_of, used_of, mark_of, owners_from, made_at, made_of, cells_words, count_room}
-use Rattle.layout.specs.Cells.{cell_on, page-on, word_at, work_at, work_of, ref_to, page_of, place_of, cell_of, word_of, page_cells, cell_words, place-low, same-cell, word_cell, word-there, word_low, work-cell, work-there, work-low}
+use Rattle.layout.specs.Cells.{cell_on, page-on, word_at, work_at, work_of, ref_to, page_of, place_of, cell_of, word_of, page_cells, cell_words, place-low, same-cell, word_cell, word-there, work-cell, work-there}
 use Rattle.layout.specs.Marks.{marked}
 use Rattle.layout.specs.Objects.{InUse, NotInUse, Begins, begins-used, used-begins, begins-page, work-used}
 use Rattle.layout.specs.Words.{tables_only}
@@ -27,65 +27,13 @@ use Rattle.copy.specs.Taking.{Next, took-needs, room-same}
 
 -- ---- the words of a cell
 
--- words below n of cell d are those of cell c, and nothing else is changed
-pub record Half (c d n : ℕ) (W W' : List ℕ) : Type 0 where
-  pub size : length W' ≡ length W
-  pub body : (i : ℕ) → i < n → get_or W' (word_at d i) 0 ≡ get_or W (word_at c i) 0
-  pub same : (x : ℕ) → (cell_of x ≡ d → n ≤ word_of x) → get_or W' x 0 ≡ get_or W x 0
-
-pub half-start : (c d : ℕ) (W : List ℕ) → Half c d 0 W W
-half-start c d W =
-    record { size = refl; body = λ i l. absurd (let z : ⊥ = omega arith in z); same = λ x h. refl }
-
-pub half-next : {c d n : ℕ} {W W' : List ℕ} → c ≢ d → n < cell_words → word_at d cell_words ≤ length W → Half c d n W W'
-    → Half c d (n + 1) W (set W' (word_at d n) (get_or W' (word_at c n) 0))
-half-next {c} {d} {n} {W} {W'} ne lt long h =
-    record {
-      size = length-set W' (word_at d n) v ∙ h.size;
-      body = λ i l. at i l (ℕ_discrete i n);
-      same = λ x k.
-          get_or-set_other W' (word_at d n) x v 0 (λ e. omega (arith, k (ap cell_of e ∙ word_cell d n lt), ap word_of e, word-there d n lt))
-          ∙ h.same x (λ z. omega (arith, k z));
-    }
-  where
-    v : ℕ
-    v = get_or W' (word_at c n) 0
-
-    at : (i : ℕ) → i < n + 1 → Dec (i ≡ n) → get_or (set W' (word_at d n) v) (word_at d i) 0 ≡ get_or W (word_at c i) 0
-    at i l (yes e) =
-        subst (λ (j : ℕ). get_or (set W' (word_at d n) v) (word_at d j) 0 ≡ get_or W (word_at c j) 0) (sym e)
-        (get_or-set_same W' (word_at d n) v 0 (omega (arith, h.size, word_low d n long lt))
-        ∙ h.same (word_at c n) (λ z. absurd (ne (sym (word_cell c n lt) ∙ z))))
-    at i l (no m) =
-        let li : i < cell_words = omega arith in
-        get_or-set_other W' (word_at d n) (word_at d i) v 0 (λ e. m (sym (word-there d i li) ∙ ap word_of e ∙ word-there d n lt)) ∙ h.body i (omega arith)
-
+-- cell d has the words of cell c but for word 1, which is zero; word 1 of cell c is the reference to d
 pub record Copied (c d : ℕ) (W W' : List ℕ) : Type 0 where
   pub size : length W' ≡ length W
   pub body : (i : ℕ) → i < cell_words → i ≢ 1 → get_or W' (word_at d i) 0 ≡ get_or W (word_at c i) 0
   pub clear : work_of W' d ≡ 0
   pub forward : work_of W' c ≡ ref_to d
   pub same : (x : ℕ) → x ≢ work_at c → cell_of x ≢ d → get_or W' x 0 ≡ get_or W x 0
-
-pub half-copied : {c d : ℕ} {W W' : List ℕ} → c ≢ d → word_at d cell_words ≤ length W → word_at c cell_words ≤ length W → Half c d cell_words W W' → (v : ℕ) → v ≡ ref_to d
-    → Copied c d W (set (set W' (work_at d) 0) (work_at c) v)
-half-copied {c} {d} {W} {W'} ne ld lc h v e =
-    record {
-      size = length-set X (work_at c) v ∙ length-set W' (work_at d) 0 ∙ h.size;
-      body = λ i l n.
-          get_or-set_other X (work_at c) (word_at d i) v 0 (λ z. ne (sym (work-cell c) ∙ ap cell_of (sym z) ∙ word_cell d i l))
-          ∙ get_or-set_other W' (work_at d) (word_at d i) 0 0 (λ z. n (sym (word-there d i l) ∙ ap word_of z ∙ work-there d)) ∙ h.body i l;
-      clear =
-          get_or-set_other X (work_at c) (work_at d) v 0 (λ z. ne (sym (work-cell c) ∙ ap cell_of (sym z) ∙ work-cell d))
-          ∙ get_or-set_same W' (work_at d) 0 0 (omega (arith, h.size, work-low d ld));
-      forward = get_or-set_same X (work_at c) v 0 (omega (arith, h.size, length-set W' (work_at d) 0, work-low c lc)) ∙ e;
-      same = λ x a b.
-          get_or-set_other X (work_at c) x v 0 a ∙ get_or-set_other W' (work_at d) x 0 0 (λ z. b (ap cell_of z ∙ work-cell d))
-          ∙ h.same x (λ z. absurd (b z));
-    }
-  where
-    X : List ℕ
-    X = set W' (work_at d) 0
 
 -- ---- one move
 
