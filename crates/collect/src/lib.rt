@@ -44,12 +44,13 @@ fn collect_marked(
 {
     let mut list = [0u32; 1024];
     let n = pages::list_pages(p, tables, 1, &mut list);
-    release::note_released(p, notes, &list, n);
-    let kept = slide::number::number_kept(p, cells, tables, &list, n);
+    let listed = &list[..n];
+    release::note_released(p, notes, listed);
+    let kept = slide::number::number_kept(p, cells, tables, listed);
     settle::rewrite::rewrite_variables(p, cells, tables);
     retell::cells::rewrite_cells(p, cells, tables);
-    slide::slide::slide_kept(p, cells, tables, &list, n);
-    slide::trim::trim_pages(p, cells, tables, &list, n, kept);
+    slide::slide::slide_kept(p, cells, tables, listed);
+    slide::trim::trim_pages(p, cells, tables, listed, kept);
     tally(p, tables, kept);
     retell::retell(p, cells, remember, tables);
 }

@@ -3,6 +3,7 @@
 #![tactic(auto)]
 
 ghost use Rattle.std.specs.Prelude.{◌≡◌, List, ℕ, ◌<◌};
+ghost use Rattle.rules.specs.Refusals.{answer_of};
 ghost use Rattle.layout.specs.Words.{words};
 ghost use Rattle.chains.specs.Chains.{ChainsWhole, with_chains};
 ghost use Rattle.promises.specs.Whole.{WholeFor};
@@ -11,12 +12,12 @@ ghost use Rattle.pages.specs.Noted.{Noted};
 ghost use Rattle.ended.specs.AfterEnd.{end_of};
 ghost use Rattle.ending.specs.Ending.{Ending};
 
-use rules::{Answer, Sizes};
+use evacuate::Epoch;
+use rules::{Refusal, Sizes};
 
 pub mod needs;
 
-// The end of the thread's innermost epoch, at the given level, once its survivors are marked: 13 if there are too few free pages, 14 if too
-// many slots would cross.
+// The end of an epoch whose survivors are marked: refused if there are too few free pages (13), or if too many slots would cross (14).
 fn end_marked(
     p: Sizes,
     cells: &mut [u32],
@@ -24,35 +25,34 @@ fn end_marked(
     tables: &mut [u32],
     chains: &mut [u32],
     notes: &mut [u32],
-    thread: usize,
-    level: usize,
-    region: u32,
-) -> Answer
-    requires by_index { (c t : List ℕ) × Ending p thread level region (words c remember.old t) (words cells.old remember.old tables.old) }
+    epoch: Epoch,
+) -> Result<u32, Refusal>
+    requires by_index { (c t : List ℕ) × Ending p epoch.thread epoch.level epoch.region (words c remember.old t) (words cells.old remember.old tables.old) }
     requires noted { Noted p tables.old notes.old }
     requires chains_whole { ChainsWhole p remember.old chains.old }
-    ensures by_index_2 { (c t : List ℕ) → Ending p thread level region (words c remember.old t) (words cells.old remember.old tables.old) → DidHere p (words c remember.old t) (end_of thread) (words cells.new remember.new tables.new) result }
+    ensures by_index_2 { (c t : List ℕ) → Ending p epoch.thread epoch.level epoch.region (words c remember.old t) (words cells.old remember.old tables.old) → DidHere p (words c remember.old t) (end_of epoch.thread) (words cells.new remember.new tables.new) (answer_of result) }
     ensures noted_2 { Noted p tables.new notes.new }
     ensures chains_after { chains.new ≡ with_chains p remember.new chains.old }
 {
     let mut list = [0u32; 1024];
     let mut come = [0u32; 130];
-    let n = pages::list_pages(p, tables, region, &mut list);
-    let k = census::count::count_listed(p, cells, tables, &list, n, &mut come);
-    let q = needs::ask_room(
-        p, cells, remember, tables, chains, &list, n, &come, thread, level, region, k,
+    let n = pages::list_pages(p, tables, epoch.region, &mut list);
+    let listed = &list[..n];
+    let k = census::count::count_listed(p, cells, tables, listed, &mut come);
+    let asked = needs::ask_room(
+        p, cells, remember, tables, chains, listed, &come, epoch, k,
     );
-    if q != 0 {
-        mark::unmark::unmark(p, cells, tables, &list, n);
-        return rules::refused(q);
+    if let Err(refusal) = asked {
+        mark::unmark::unmark(p, cells, tables, listed);
+        return Err(refusal);
     }
     evacuate::evacuate(
-        p, cells, remember, tables, chains, notes, &list, n, &come, thread, level, region,
+        p, cells, remember, tables, chains, notes, listed, &come, epoch,
     );
-    rules::done(0)
+    Ok(0)
 }
 
-// Ends the thread's innermost epoch: 12 if it has none. The notes are right of the tables (`Noted`, crate `pages`), the chains of the
+// Ends the thread's innermost epoch: refused if it has none (12). The notes are right of the tables (`Noted`, crate `pages`), the chains of the
 // remember table (`ChainsWhole`, crate `chains`).
 pub fn end(
     p: Sizes,
@@ -62,27 +62,28 @@ pub fn end(
     chains: &mut [u32],
     notes: &mut [u32],
     thread: usize,
-) -> Answer
+) -> Result<u32, Refusal>
     requires whole_for { WholeFor p (words cells.old remember.old tables.old) }
     requires thread_lt_threads { thread < p.threads }
     requires noted { Noted p tables.old notes.old }
     requires chains_whole { ChainsWhole p remember.old chains.old }
-    ensures did_here { DidHere p (words cells.old remember.old tables.old) (end_of thread) (words cells.new remember.new tables.new) result }
+    ensures did_here { DidHere p (words cells.old remember.old tables.old) (end_of thread) (words cells.new remember.new tables.new) (answer_of result) }
     ensures noted_2 { Noted p tables.new notes.new }
     ensures chains_after { chains.new ≡ with_chains p remember.new chains.old }
 {
-    let level = layout::wide(layout::tables::depth(p, tables, thread));
+    let level = layout::tables::depth(p, tables, thread) as usize;
     if level == 0 {
-        return rules::refused(12);
+        return Err(Refusal::NoEpoch);
     }
     let region = layout::regions::region_at(p, thread, level);
+    let epoch = Epoch {
+        thread,
+        level,
+        region,
+    };
     if mark::survivors::mark_survivors(p, cells, remember, tables, chains, thread, level, region) {
-        return end_marked(
-            p, cells, remember, tables, chains, notes, thread, level, region,
-        );
+        return end_marked(p, cells, remember, tables, chains, notes, epoch);
     }
-    evacuate::evacuate_none(
-        p, cells, remember, tables, chains, notes, thread, level, region,
-    );
-    rules::done(0)
+    evacuate::evacuate_none(p, cells, remember, tables, chains, notes, epoch);
+    Ok(0)
 }

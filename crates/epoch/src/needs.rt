@@ -2,6 +2,7 @@
 // the entries.
 ghost use Rattle.std.specs.Prelude.{◌≡◌, ◌^◌, ◌<◌, ◌≤◌, length, get_or};
 ghost use Rattle.lists.specs.Part.{Lists};
+ghost use Rattle.rules.specs.Refusals.{asked};
 ghost use Rattle.rules.specs.Regions.{region_at, regions};
 ghost use Rattle.layout.specs.Places.{Room, owner_of};
 ghost use Rattle.chains.specs.Chains.{ChainsWhole};
@@ -13,7 +14,8 @@ ghost use Rattle.census.specs.Census.{Census};
 ghost use Rattle.census.specs.Going.{OthersStay};
 ghost use Rattle.ending.specs.RoomAsked.{room_asked};
 
-use rules::Sizes;
+use evacuate::Epoch;
+use rules::{Refusal, Sizes};
 
 // How many new pages region g needs for the survivors that go to it, which `come` counts: none where none goes.
 pub fn new_pages(p: Sizes, tables: &[u32], come: &[u32], g: u32) -> usize
@@ -22,12 +24,12 @@ pub fn new_pages(p: Sizes, tables: &[u32], come: &[u32], g: u32) -> usize
     ensures value { result ≡ region_more p tables.now (λ h. get_or come.now h 0) g }
     ensures upper_bound { result ≤ 2 ^ 28 }
 {
-    let region = layout::wide(g);
-    let arrivals = layout::wide(come[region]);
+    let region = g as usize;
+    let arrivals = come[region] as usize;
     if arrivals == 0 {
         return 0;
     }
-    let have = layout::wide(layout::tables::count(p, tables, region));
+    let have = layout::tables::count(p, tables, region) as usize;
     layout::cells::pages_for(have + arrivals) - layout::cells::pages_for(have)
 }
 
@@ -39,21 +41,18 @@ pub fn needed_pages(p: Sizes, tables: &[u32], come: &[u32], thread: usize, level
     ensures { result ≡ more_below p tables.now (λ g. get_or come.now g 0) (region_at p thread) levels }
 {
     let mut n: usize = 0;
-    let mut level: usize = 0;
-    while level < levels {
+    for level in 0..levels {
         n += new_pages(
             p,
             tables,
             come,
             layout::regions::region_at(p, thread, level),
         );
-        level += 1;
     }
     n
 }
 
-// Questions 13 and 14 at the end of the thread's region at the given level, whose survivors are marked: the number of the first that says no, 0 if
-// none does. Its n pages are listed, and k is how many of the survivors' slots would cross.
+// Questions 13 and 14 at the end of an epoch whose survivors are marked and whose pages are listed; k is how many of the survivors' slots would cross.
 pub fn ask_room(
     p: Sizes,
     cells: &[u32],
@@ -61,35 +60,33 @@ pub fn ask_room(
     tables: &[u32],
     chains: &[u32],
     list: &[u32],
-    n: usize,
     come: &[u32],
-    thread: usize,
-    level: usize,
-    region: u32,
+    epoch: Epoch,
     k: usize,
-) -> u32
+) -> Result<(), Refusal>
     requires shaped { Shaped p cells.now tables.now }
     requires holding { Holding p cells.now remember.now tables.now }
-    requires others_stay { OthersStay p cells.now tables.now region }
+    requires others_stay { OthersStay p cells.now tables.now epoch.region }
     requires chains_whole { ChainsWhole p remember.now chains.now }
-    requires lists { Lists (λ page. owner_of p tables.now page ≡ region) p.pages n list.now }
-    requires le_region { (1 ≤ region) × (region ≤ regions p) }
+    requires lists { Lists (λ page. owner_of p tables.now page ≡ epoch.region) p.pages (length list.now) list.now }
+    requires le_region { (1 ≤ epoch.region) × (epoch.region ≤ regions p) }
     requires paged { Paged p tables.now }
     requires census { Census p cells.now tables.now p.pages come.now k }
     requires p_in_bounds { regions p < length come.now }
-    requires thread_lt_threads { (thread < p.threads) × (level ≤ p.depth) }
-    ensures { result ≡ room_asked p cells.now remember.now tables.now thread level region }
+    requires thread_lt_threads { (epoch.thread < p.threads) × (epoch.level ≤ p.depth) }
+    ensures { asked result ≡ room_asked p cells.now remember.now tables.now epoch.thread epoch.level epoch.region }
 {
+    let Epoch { thread, level, region } = epoch;
     let needed = needed_pages(p, tables, come, thread, level);
     let free = pages::free_pages(p, tables);
     if free < needed {
-        return 13;
+        return Err(Refusal::Pages);
     }
     let crossing = census::crossing::count_crossing(
-        p, cells, remember, tables, chains, list, n, region, k,
+        p, cells, remember, tables, chains, list, region, k,
     );
     if p.entries < crossing {
-        return 14;
+        return Err(Refusal::Entries);
     }
-    0
+    Ok(())
 }

@@ -15,8 +15,15 @@ ghost use Rattle.ending.specs.Ending.{Ending, Accepted, HasEnded};
 
 use rules::Sizes;
 
-// The accepted end of a thread's innermost region, at the given level, whose survivors are marked and whose pages are listed; `come` is not 0
-// of the regions that survivors go to.
+// The epoch that ends: the innermost one of a thread, at its level, and its region.
+#[derive(Clone, Copy)]
+pub struct Epoch {
+    pub thread: usize,
+    pub level: usize,
+    pub region: u32,
+}
+
+// The accepted end of an epoch whose survivors are marked and whose pages are listed; `come` is not 0 of the regions that survivors go to.
 pub fn evacuate(
     p: Sizes,
     cells: &mut [u32],
@@ -25,28 +32,26 @@ pub fn evacuate(
     chains: &mut [u32],
     notes: &mut [u32],
     list: &[u32],
-    n: usize,
     come: &[u32],
-    thread: usize,
-    level: usize,
-    region: u32,
+    epoch: Epoch,
 )
-    requires by_index { (c t : List ℕ) × Ending p thread level region (words c remember.old t) (words cells.old remember.old tables.old) × Accepted p region (words c remember.old t) }
-    requires lists { Lists (λ page. owner_of p tables.old page ≡ region) p.pages n list.now }
+    requires by_index { (c t : List ℕ) × Ending p epoch.thread epoch.level epoch.region (words c remember.old t) (words cells.old remember.old tables.old) × Accepted p epoch.region (words c remember.old t) }
+    requires lists { Lists (λ page. owner_of p tables.old page ≡ epoch.region) p.pages (length list.now) list.now }
     requires by_index_2 { (g : ℕ) → 1 ≤ g → g ≤ regions p → get_or come.now g 0 ≡ 0 → arriving p cells.old tables.old g ≡ 0 }
     requires noted { Noted p tables.old notes.old × (regions p < length come.now) }
     requires chains_whole { ChainsWhole p remember.old chains.old }
-    ensures by_index_3 { (c t : List ℕ) → Ending p thread level region (words c remember.old t) (words cells.old remember.old tables.old) → Accepted p region (words c remember.old t) → HasEnded p thread level region (words c remember.old t) (words cells.new remember.new tables.new) }
+    ensures by_index_3 { (c t : List ℕ) → Ending p epoch.thread epoch.level epoch.region (words c remember.old t) (words cells.old remember.old tables.old) → Accepted p epoch.region (words c remember.old t) → HasEnded p epoch.thread epoch.level epoch.region (words c remember.old t) (words cells.new remember.new tables.new) }
     ensures noted_2 { Noted p tables.new notes.new }
     ensures chains_after { chains.new ≡ with_chains p remember.new chains.old }
 {
-    let survivors = census::survivors::count_survivors(p, tables, list, n);
-    let freed = layout::tables::count(p, tables, layout::wide(region)) - survivors;
-    copy::copy_survivors(p, cells, tables, notes, list, n, come, thread, level);
+    let Epoch { thread, level, region } = epoch;
+    let survivors = census::survivors::count_survivors(p, tables, list);
+    let freed = layout::tables::count(p, tables, region as usize) - survivors;
+    copy::copy_survivors(p, cells, tables, notes, list, come, thread, level);
     settle::rewrite::rewrite_slots(p, cells, remember, chains, region);
-    settle::settle(p, cells, remember, tables, chains, list, n, region);
+    settle::settle(p, cells, remember, tables, chains, list, region);
     settle::rewrite::rewrite_variables(p, cells, tables);
-    release::release(p, cells, tables, notes, list, n, region, thread, freed);
+    release::release(p, cells, tables, notes, list, region, thread, freed);
 }
 
 // The same end where nothing survives and the region's pages are listed; all its objects are freed.
@@ -58,24 +63,22 @@ fn free_listed(
     chains: &mut [u32],
     notes: &mut [u32],
     list: &[u32],
-    n: usize,
-    thread: usize,
-    level: usize,
-    region: u32,
+    epoch: Epoch,
     objects: u32,
 )
-    requires by_index { (c t : List ℕ) × Ending p thread level region (words c remember.old t) (words cells.old remember.old tables.old) × Accepted p region (words c remember.old t) }
+    requires by_index { (c t : List ℕ) × Ending p epoch.thread epoch.level epoch.region (words c remember.old t) (words cells.old remember.old tables.old) × Accepted p epoch.region (words c remember.old t) }
     requires by_index_2 { (page : ℕ) → page < p.pages → mark_of p tables.old page ≡ 0 }
     requires noted { Noted p tables.old notes.old }
     requires chains_whole { ChainsWhole p remember.old chains.old }
-    requires lists { Lists (λ page. owner_of p tables.old page ≡ region) p.pages n list.now }
-    requires objects_value { objects ≡ count_of p tables.old region }
-    ensures by_index_3 { (c t : List ℕ) → Ending p thread level region (words c remember.old t) (words cells.old remember.old tables.old) → Accepted p region (words c remember.old t) → HasEnded p thread level region (words c remember.old t) (words cells.new remember.new tables.new) }
+    requires lists { Lists (λ page. owner_of p tables.old page ≡ epoch.region) p.pages (length list.now) list.now }
+    requires objects_value { objects ≡ count_of p tables.old epoch.region }
+    ensures by_index_3 { (c t : List ℕ) → Ending p epoch.thread epoch.level epoch.region (words c remember.old t) (words cells.old remember.old tables.old) → Accepted p epoch.region (words c remember.old t) → HasEnded p epoch.thread epoch.level epoch.region (words c remember.old t) (words cells.new remember.new tables.new) }
     ensures noted_2 { Noted p tables.new notes.new }
     ensures chains_after { chains.new ≡ with_chains p remember.new chains.old }
 {
-    settle::entries::keep_entries(p, cells, remember, tables, chains, list, n, region);
-    release::release(p, cells, tables, notes, list, n, region, thread, objects);
+    let Epoch { thread, region, .. } = epoch;
+    settle::entries::keep_entries(p, cells, remember, tables, chains, list, region);
+    release::release(p, cells, tables, notes, list, region, thread, objects);
 }
 
 // The same where they are not listed yet.
@@ -86,24 +89,30 @@ fn list_and_free(
     tables: &mut [u32],
     chains: &mut [u32],
     notes: &mut [u32],
-    thread: usize,
-    level: usize,
-    region: u32,
+    epoch: Epoch,
     objects: u32,
 )
-    requires by_index { (c t : List ℕ) × Ending p thread level region (words c remember.old t) (words cells.old remember.old tables.old) × Accepted p region (words c remember.old t) }
+    requires by_index { (c t : List ℕ) × Ending p epoch.thread epoch.level epoch.region (words c remember.old t) (words cells.old remember.old tables.old) × Accepted p epoch.region (words c remember.old t) }
     requires by_index_2 { (page : ℕ) → page < p.pages → mark_of p tables.old page ≡ 0 }
     requires noted { Noted p tables.old notes.old }
     requires chains_whole { ChainsWhole p remember.old chains.old }
-    requires objects_value { objects ≡ count_of p tables.old region }
-    ensures by_index_3 { (c t : List ℕ) → Ending p thread level region (words c remember.old t) (words cells.old remember.old tables.old) → Accepted p region (words c remember.old t) → HasEnded p thread level region (words c remember.old t) (words cells.new remember.new tables.new) }
+    requires objects_value { objects ≡ count_of p tables.old epoch.region }
+    ensures by_index_3 { (c t : List ℕ) → Ending p epoch.thread epoch.level epoch.region (words c remember.old t) (words cells.old remember.old tables.old) → Accepted p epoch.region (words c remember.old t) → HasEnded p epoch.thread epoch.level epoch.region (words c remember.old t) (words cells.new remember.new tables.new) }
     ensures noted_2 { Noted p tables.new notes.new }
     ensures chains_after { chains.new ≡ with_chains p remember.new chains.old }
 {
     let mut list = [0u32; 1024];
-    let n = pages::list_pages(p, tables, region, &mut list);
+    let n = pages::list_pages(p, tables, epoch.region, &mut list);
     free_listed(
-        p, cells, remember, tables, chains, notes, &list, n, thread, level, region, objects,
+        p,
+        cells,
+        remember,
+        tables,
+        chains,
+        notes,
+        &list[..n],
+        epoch,
+        objects,
     );
 }
 
@@ -116,27 +125,20 @@ pub fn evacuate_none(
     tables: &mut [u32],
     chains: &mut [u32],
     notes: &mut [u32],
-    thread: usize,
-    level: usize,
-    region: u32,
+    epoch: Epoch,
 )
-    requires by_index { (c t : List ℕ) × Ending p thread level region (words c remember.old t) (words cells.old remember.old tables.old) × Accepted p region (words c remember.old t) }
+    requires by_index { (c t : List ℕ) × Ending p epoch.thread epoch.level epoch.region (words c remember.old t) (words cells.old remember.old tables.old) × Accepted p epoch.region (words c remember.old t) }
     requires by_index_2 { (page : ℕ) → page < p.pages → mark_of p tables.old page ≡ 0 }
     requires noted { Noted p tables.old notes.old }
     requires chains_whole { ChainsWhole p remember.old chains.old }
-    ensures by_index_3 { (c t : List ℕ) → Ending p thread level region (words c remember.old t) (words cells.old remember.old tables.old) → Accepted p region (words c remember.old t) → HasEnded p thread level region (words c remember.old t) (words cells.new remember.new tables.new) }
+    ensures by_index_3 { (c t : List ℕ) → Ending p epoch.thread epoch.level epoch.region (words c remember.old t) (words cells.old remember.old tables.old) → Accepted p epoch.region (words c remember.old t) → HasEnded p epoch.thread epoch.level epoch.region (words c remember.old t) (words cells.new remember.new tables.new) }
     ensures noted_2 { Noted p tables.new notes.new }
     ensures chains_after { chains.new ≡ with_chains p remember.new chains.old }
 {
-    let objects = layout::tables::count(p, tables, layout::wide(region));
+    let objects = layout::tables::count(p, tables, epoch.region as usize);
     if objects != 0 {
-        list_and_free(
-            p, cells, remember, tables, chains, notes, thread, level, region, objects,
-        );
+        list_and_free(p, cells, remember, tables, chains, notes, epoch, objects);
     } else {
-        let none = [0u32; 1];
-        free_listed(
-            p, cells, remember, tables, chains, notes, &none, 0, thread, level, region, objects,
-        );
+        free_listed(p, cells, remember, tables, chains, notes, &[], epoch, objects);
     }
 }
