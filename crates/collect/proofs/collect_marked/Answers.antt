@@ -1,5 +1,6 @@
 -- Each stage starts from what was left before it; put together they leave what the rules leave.
 use Rattle.std.proofs.Common.{◌∙◌, arith}
+use Rattle.lists.specs.Part.{lists-front}
 use Rattle.collect.specs.TablesAfter.{room₂}
 use Rattle.collect.specs.CollectDid.{readable₅, fits₅}
 use Rattle.collect.proofs.CollectPromised.{promised}
@@ -19,7 +20,7 @@ list_pages-n-requires c =
 pub note_released-requires : goal.note_released-requires
 note_released-requires c =
     let k = c.requires.by_index.2 in record {
-      rises = c.list_pages-n.ensures.rises;
+      rises = (lists-front c.list_pages-n.ensures).rises;
       pages_bound = ((marked-ready k).room.few, c.requires.noted.long);
     }
 
@@ -28,24 +29,24 @@ number_kept-kept-requires c =
     let k = c.requires.by_index.2 in record {
       room = (marked-ready k).room;
       p_in_bounds = (marked-ready k).cells-long;
-      marks_listed = marks-for k c.list_pages-n.ensures;
+      marks_listed = marks-for k (lists-front c.list_pages-n.ensures);
     }
 
 pub rewrite_variables-requires : goal.rewrite_variables-requires
 rewrite_variables-requires c =
     let k = c.requires.by_index.2 in
-    let a = numbering k c.list_pages-n.ensures c.number_kept-kept.ensures in record { by_index = variables-ask a; p_in_bounds = long₂ a; room = (marked-ready k).room }
+    let a = numbering k (lists-front c.list_pages-n.ensures) c.number_kept-kept.ensures in record { by_index = variables-ask a; p_in_bounds = long₂ a; room = (marked-ready k).room }
 
 pub rewrite_cells-requires : goal.rewrite_cells-requires
 rewrite_cells-requires c =
     let k = c.requires.by_index.2 in
-    let a = numbering k c.list_pages-n.ensures c.number_kept-kept.ensures in
+    let a = numbering k (lists-front c.list_pages-n.ensures) c.number_kept-kept.ensures in
     slots-ask a c.rewrite_variables.ensures
 
 pub slide_kept-requires : goal.slide_kept-requires
 slide_kept-requires c =
     let k = c.requires.by_index.2 in
-    let a = numbering k c.list_pages-n.ensures c.number_kept-kept.ensures in
+    let a = numbering k (lists-front c.list_pages-n.ensures) c.number_kept-kept.ensures in
     let Y = c.rewrite_variables.ensures in
     let R = c.rewrite_cells.ensures in record {
       room = room₂ a Y;
@@ -57,7 +58,7 @@ slide_kept-requires c =
 pub trim_pages-requires : goal.trim_pages-requires
 trim_pages-requires c =
     let k = c.requires.by_index.2 in
-    let a = numbering k c.list_pages-n.ensures c.number_kept-kept.ensures in
+    let a = numbering k (lists-front c.list_pages-n.ensures) c.number_kept-kept.ensures in
     let Y = c.rewrite_variables.ensures in
     let R = c.rewrite_cells.ensures in record {
       room = room₂ a Y;
@@ -69,14 +70,14 @@ trim_pages-requires c =
 pub tally-requires : goal.tally-requires
 tally-requires c =
     let k = c.requires.by_index.2 in
-    let a = numbering k c.list_pages-n.ensures c.number_kept-kept.ensures in
+    let a = numbering k (lists-front c.list_pages-n.ensures) c.number_kept-kept.ensures in
     let Y = c.rewrite_variables.ensures in
     let Z = c.trim_pages.ensures in record { room = room₃ a Y Z; kept_bound = count-ask a Y Z }
 
 pub retell-requires : goal.retell-requires
 retell-requires c =
     let k = c.requires.by_index.2 in
-    let a = numbering k c.list_pages-n.ensures c.number_kept-kept.ensures in
+    let a = numbering k (lists-front c.list_pages-n.ensures) c.number_kept-kept.ensures in
     let Y = c.rewrite_variables.ensures in
     let R = c.rewrite_cells.ensures in
     let S = c.slide_kept.ensures in
@@ -102,7 +103,7 @@ shape_of-notes c = c.note_released.auto.notes
 
 pub returns : goal.returns
 returns c =
-    let o = c.list_pages-n.ensures in
+    let o = lists-front c.list_pages-n.ensures in
     let N = c.number_kept-kept.ensures in
     let Y = c.rewrite_variables.ensures in
     let R = c.rewrite_cells.ensures in

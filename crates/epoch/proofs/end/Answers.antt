@@ -1,5 +1,5 @@
 -- No epoch is open, nothing survives, or the marked words are ended.
-use Rattle.std.proofs.Common.{ℕ, ◌<◌, false, ◌≡◌, sym, ◌∙◌, arith}
+use Rattle.std.proofs.Common.{ℕ, ◌<◌, false, ◌≡◌, refl, sym, ◌∙◌, arith}
 use Rattle.layout.specs.Places.{depth_of, mark_of}
 use Rattle.layout.specs.Words.{Words, words}
 use Rattle.chains.proofs.LentChains.{chains-same}
@@ -21,18 +21,18 @@ abbrev after : goal.After-mark_survivors → Words
 after c =
     words c.mark_survivors.new.cells c.args.remember.now c.mark_survivors.new.tables
 
-level : (c : goal.After-mark_survivors) → depth_of (let a = c.args in words a.cells.now a.remember.now a.tables.now).tables c.args.thread ≡ c.wide-level.result
+level : (c : goal.After-mark_survivors) → depth_of (let a = c.args in words a.cells.now a.remember.now a.tables.now).tables c.args.thread ≡ c.depth.result
 level c =
-    sym (c.wide-level.ensures ∙ c.depth.ensures)
+    sym c.depth.ensures
 
-ending : (c : goal.After-mark_survivors) → Ending c.args.p c.args.thread c.wide-level.result c.region_at-region.result (let a = c.args in words a.cells.now a.remember.now a.tables.now) (words c.mark_survivors.new.cells c.args.remember.now c.mark_survivors.new.tables)
+ending : (c : goal.After-mark_survivors) → Ending c.args.p c.args.thread c.depth.result c.region_at-region.result (let a = c.args in words a.cells.now a.remember.now a.tables.now) (words c.mark_survivors.new.cells c.args.remember.now c.mark_survivors.new.tables)
 ending c =
     let a = c.args in
     record {
       whole = c.requires.whole_for;
       fits = (omega arith);
       thread = c.requires.thread_lt_threads;
-      level = (sym (c.wide-level.ensures ∙ c.depth.ensures));
+      level = sym c.depth.ensures;
       epoch = omega (arith, c.if-level-eq0.false);
       region = c.region_at-region.ensures;
       marks = c.mark_survivors.ensures.marked;
@@ -51,8 +51,8 @@ depth-requires c =
 pub returns-then-level-eq0 : goal.returns-then-level-eq0
 returns-then-level-eq0 c =
     let a = c.args in record {
-      did_here = did-answer c.refused.ensures
-          (refused-shut a.p (words a.cells.now a.remember.now a.tables.now) c.requires.whole_for a.thread c.requires.thread_lt_threads (sym (c.wide-level.ensures ∙ c.depth.ensures) ∙ c.if-level-eq0.true));
+      did_here = did-answer refl
+          (refused-shut a.p (words a.cells.now a.remember.now a.tables.now) c.requires.whole_for a.thread c.requires.thread_lt_threads (sym c.depth.ensures ∙ c.if-level-eq0.true));
       noted_2 = c.requires.noted;
       chains_after = chains-same c.requires.chains_whole;
     }
@@ -61,13 +61,13 @@ pub region_at-region-requires : goal.region_at-region-requires
 region_at-region-requires c =
     let a = c.args in
     let rm = whole_room a.p (words a.cells.now a.remember.now a.tables.now) c.requires.whole_for (omega arith) in
-    (rm.threads-high, rm.depth-high, c.requires.thread_lt_threads, omega (arith, c.requires.whole_for.depths a.thread c.requires.thread_lt_threads, c.wide-level.ensures, c.depth.ensures))
+    (rm.threads-high, rm.depth-high, c.requires.thread_lt_threads, omega (arith, c.requires.whole_for.depths a.thread c.requires.thread_lt_threads, c.depth.ensures))
 
 pub mark_survivors-requires : goal.mark_survivors-requires
 mark_survivors-requires c = record {
   whole_for = c.requires.whole_for;
   chains_whole = c.requires.chains_whole;
-  thread_lt_threads = (c.requires.thread_lt_threads, c.wide-level.ensures ∙ c.depth.ensures, omega (arith, c.if-level-eq0.false), c.region_at-region.ensures);
+  thread_lt_threads = (c.requires.thread_lt_threads, c.depth.ensures, omega (arith, c.if-level-eq0.false), c.region_at-region.ensures);
 }
 
 pub end_marked-requires : goal.end_marked-requires
@@ -102,7 +102,7 @@ returns c =
     let a = c.args in
     let m = ending (goal.at.returns c).After-mark_survivors in
     let yes = accepted m (free-way m (unmarked (goal.at.returns c).After-mark_survivors c.if-mark_survivors.false)) in record {
-      did_here = did-answer c.done.ensures (ended_here m yes (c.evacuate_none.ensures.by_index_3 a.cells.now a.tables.now m yes));
+      did_here = did-answer refl (ended_here m yes (c.evacuate_none.ensures.by_index_3 a.cells.now a.tables.now m yes));
       noted_2 = c.evacuate_none.ensures.noted_2;
       chains_after = c.evacuate_none.ensures.chains_after;
     }

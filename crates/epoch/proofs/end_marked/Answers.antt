@@ -3,6 +3,7 @@ use Rattle.std.proofs.Common.{◌≡◌, sym, ◌∙◌, arith}
 use Rattle.chains.proofs.LentChains.{chains-same}
 use Rattle.promises.proofs.Questions.{did-answer}
 use Rattle.lists.specs.Zeros.{replicate-at}
+use Rattle.lists.specs.Part.{lists-front}
 use Rattle.layout.specs.Places.{most_regions, regions-few}
 use Rattle.promises.specs.Arriving.{goes_to}
 use Rattle.census.specs.Counted.{over-cells}
@@ -19,14 +20,14 @@ list_pages-n-requires c =
     let z = bounds m in record {
       room = room-now m;
       le_region = z;
-      pages_value = (paged-now m).pages c.args.region z.0 z.1;
+      pages_value = (paged-now m).pages c.args.epoch.region z.0 z.1;
       pages_in_bounds = (room-now m).few;
     }
 
 pub count_listed-k-requires : goal.count_listed-k-requires
 count_listed-k-requires c =
     let m = c.requires.by_index.2 in
-    let o = c.list_pages-n.ensures in record {
+    let o = lists-front c.list_pages-n.ensures in record {
       shaped = shaped-now m;
       rises = o.rises;
       by_index = unlisted m.marks (listed m o);
@@ -44,7 +45,7 @@ ask_room-q-requires c =
       holding = holding-now m;
       others_stay = others-stay m;
       chains_whole = c.requires.chains_whole;
-      lists = c.list_pages-n.ensures;
+      lists = lists-front c.list_pages-n.ensures;
       le_region = bounds m;
       paged = paged-now m;
       census = k.ensures;
@@ -55,7 +56,7 @@ ask_room-q-requires c =
 pub unmark-requires : goal.unmark-requires
 unmark-requires c =
     let m = c.requires.by_index.2 in
-    let o = c.list_pages-n.ensures in record {
+    let o = lists-front c.list_pages-n.ensures in record {
       room = room-now m;
       p_in_bounds = (marked-ready m).cells-long;
       small = m.marks.small;
@@ -79,7 +80,7 @@ evacuate-requires c =
     let k = c.count_listed-k in
     let yes = sym (let z : c.ask_room-q.result ≡ 0 = omega (arith, c.if-q-ne0.false) in z) ∙ c.ask_room-q.ensures in record {
       by_index = (c.requires.by_index.0, c.requires.by_index.1, m, accepted m yes);
-      lists = c.list_pages-n.ensures;
+      lists = lists-front c.list_pages-n.ensures;
       by_index_2 = (λ g low high z. sym (k.ensures.arrivals g ∙ over-cells a.p a.tables.now (goes_to a.cells.now g)) ∙ z);
       noted = (c.requires.noted, omega (arith, regions-few (room-now m), k.auto.come));
       chains_whole = c.requires.chains_whole;
@@ -89,7 +90,7 @@ pub returns : goal.returns
 returns c = record {
   by_index_2 = λ cells tables m.
       let a = accepted m (sym (let z : c.ask_room-q.result ≡ 0 = omega (arith, c.if-q-ne0.false) in z) ∙ c.ask_room-q.ensures) in
-      did-answer c.done.ensures (ended_here m a (c.evacuate.ensures.by_index_3 cells tables m a));
+      did-answer refl (ended_here m a (c.evacuate.ensures.by_index_3 cells tables m a));
   noted_2 = c.evacuate.ensures.noted_2;
   chains_after = c.evacuate.ensures.chains_after;
 }

@@ -24,14 +24,14 @@ pub count-requires : goal.count-requires
 count-requires c =
     let e = c.requires.by_index.2 in record {
       room = room-now e;
-      le_region = (omega (arith, c.wide.ensures, st.bounds e), omega (arith, c.wide.ensures, st.bounds e));
+      le_region = st.bounds e;
     }
 
 -- the objects of the region less the survivors
 pub overflow_sub-freed : goal.overflow_sub-freed
 overflow_sub-freed c =
     let a = c.args in
-    omega (arith, c.count.ensures, ap (count_of a.p a.tables.now) c.wide.ensures, c.count_survivors-survivors.ensures, st.freed-rest c.requires.by_index.2)
+    omega (arith, c.count.ensures, c.count_survivors-survivors.ensures, st.freed-rest c.requires.by_index.2)
 
 pub copy_survivors-requires : goal.copy_survivors-requires
 copy_survivors-requires c =
@@ -110,7 +110,7 @@ returns c = record {
       let k = c.copy_survivors.ensures.copy in
       let h = st.moved e p k in
       st.has_ended e p k c.rewrite_variables.ensures release.ensures.ended
-      (omega (arith, c.count.ensures, ap (count_of args.p args.tables.now) c.wide.ensures, c.count_survivors-survivors.ensures, st.freed-rest e)) release.ensures.emptied
+      (omega (arith, c.count.ensures, c.count_survivors-survivors.ensures, st.freed-rest e)) release.ensures.emptied
       (rewritten-both h (st.held e) c.rewrite_slots.ensures settle.ensures.rewritten) settle.ensures.updated;
   noted_2 = c.release.ensures.noted_2;
   chains_after = c.settle.ensures.chains_after;

@@ -12,7 +12,7 @@ pub count-objects-requires : goal.count-objects-requires
 count-objects-requires c =
     let e = c.requires.by_index.2 in record {
       room = room-now e;
-      le_region = (omega (arith, c.wide.ensures, st.bounds e), omega (arith, c.wide.ensures, st.bounds e));
+      le_region = st.bounds e;
     }
 
 pub list_and_free-requires : goal.list_and_free-requires
@@ -21,17 +21,17 @@ list_and_free-requires c = record {
   by_index_2 = c.requires.by_index_2;
   noted = c.requires.noted;
   chains_whole = c.requires.chains_whole;
-  objects_value = (c.count-objects.ensures ∙ ap (count_of c.args.p c.args.tables.now) c.wide.ensures);
+  objects_value = c.count-objects.ensures;
 }
 
 pub free_listed-requires : goal.free_listed-requires
 free_listed-requires c =
     let e = c.requires.by_index.2 in
-    let n = (c.count-objects.ensures ∙ ap (count_of c.args.p c.args.tables.now) c.wide.ensures) in record {
+    let n = c.count-objects.ensures in record {
       by_index = c.requires.by_index;
       by_index_2 = c.requires.by_index_2;
       noted = c.requires.noted;
       chains_whole = c.requires.chains_whole;
-      lists = lists-none _ (none_owned (plan e c.requires.by_index.3.pages).ready.regular c.args.region (st.bounds e).0 (st.bounds e).1 (sym n ∙ c.if-objects-ne0.false));
+      lists = lists-none _ (none_owned (plan e c.requires.by_index.3.pages).ready.regular c.args.epoch.region (st.bounds e).0 (st.bounds e).1 (sym n ∙ c.if-objects-ne0.false));
       objects_value = n;
     }

@@ -1,4 +1,5 @@
 -- The region has as many pages as its count of objects says, so all of them are listed.
+use Rattle.lists.specs.Part.{lists-front}
 use Rattle.promises.proofs.OwnedPages.{counts-owned}
 use Rattle.ending.specs.PagesEnough.{plan}
 use Rattle.ending.specs.Stages as st
@@ -11,7 +12,7 @@ list_pages-n-requires c =
     let region = st.bounds e in record {
       room = ready.room;
       le_region = region;
-      pages_value = counts-owned ready.regular c.args.region region.0 region.1;
+      pages_value = counts-owned ready.regular c.args.epoch.region region.0 region.1;
       pages_in_bounds = ready.room.few;
     }
 
@@ -21,6 +22,6 @@ free_listed-requires c = record {
   by_index_2 = c.requires.by_index_2;
   noted = c.requires.noted;
   chains_whole = c.requires.chains_whole;
-  lists = c.list_pages-n.ensures;
+  lists = lists-front c.list_pages-n.ensures;
   objects_value = c.requires.objects_value;
 }

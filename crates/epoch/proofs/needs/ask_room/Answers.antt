@@ -6,7 +6,7 @@ use Rattle.epoch.proofs.needs.ask_room.Goals as goal
 pub returns-then-free-needed : goal.returns-then-free-needed
 returns-then-free-needed c =
     let a = c.args in
-    asked-pages a.p a.cells.now a.remember.now a.tables.now a.thread a.level a.region
+    asked-pages a.p a.cells.now a.remember.now a.tables.now a.epoch.thread a.epoch.level a.epoch.region
     (c.needed_pages-needed.ensures ∙ more-arriving a.p a.cells.now a.tables.now a.come.now a.thread a.level c.requires.census.arrivals) c.free_pages-free.ensures c.if-free-needed.true
 
 pub count_crossing-crossing-requires : goal.count_crossing-crossing-requires
@@ -24,11 +24,11 @@ count_crossing-crossing-requires c =
 pub returns-then-p-crossing : goal.returns-then-p-crossing
 returns-then-p-crossing c =
     let a = c.args in
-    asked-entries a.p a.cells.now a.remember.now a.tables.now a.thread a.level a.region
+    asked-entries a.p a.cells.now a.remember.now a.tables.now a.epoch.thread a.epoch.level a.epoch.region
     (c.needed_pages-needed.ensures ∙ more-arriving a.p a.cells.now a.tables.now a.come.now a.thread a.level c.requires.census.arrivals) c.free_pages-free.ensures c.count_crossing-crossing.ensures (omega (arith, c.if-free-needed.false)) c.if-p-crossing.true
 
 pub returns : goal.returns
 returns c =
     let a = c.args in
-    asked-none a.p a.cells.now a.remember.now a.tables.now a.thread a.level a.region
+    asked-none a.p a.cells.now a.remember.now a.tables.now a.epoch.thread a.epoch.level a.epoch.region
     (c.needed_pages-needed.ensures ∙ more-arriving a.p a.cells.now a.tables.now a.come.now a.thread a.level c.requires.census.arrivals) c.free_pages-free.ensures c.count_crossing-crossing.ensures (omega (arith, c.if-free-needed.false)) (omega (arith, c.if-p-crossing.false))

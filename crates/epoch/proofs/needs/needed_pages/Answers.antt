@@ -6,7 +6,7 @@ use Rattle.promises.specs.Arriving.{region_more, more_below}
 use Rattle.epoch.proofs.needs.needed_pages.Goals as goal
 
 pub loop-level-init : goal.loop-level-init
-loop-level-init c = (omega arith, refl, omega arith)
+loop-level-init c = (refl, omega arith)
 
 pub region_at-requires : goal.region_at-requires
 region_at-requires c =
@@ -20,13 +20,7 @@ new_pages-n-requires c =
     }
 
 pub overflow_add-n : goal.overflow_add-n
-overflow_add-n c = omega (arith, c.new_pages-n.ensures.upper_bound, c.loop-level.invariant.2, c.requires.room, c.requires.thread_lt_threads.1)
-
-pub overflow_add-level : goal.overflow_add-level
-overflow_add-level c = omega (arith, c.requires.room, c.requires.thread_lt_threads.1)
-
-pub loop-level-smaller : goal.loop-level-smaller
-loop-level-smaller c = omega arith
+overflow_add-n c = omega (arith, c.new_pages-n.ensures.upper_bound, c.loop-level.invariant.1, c.requires.room, c.requires.thread_lt_threads.1)
 
 pub loop-level-preserved : goal.loop-level-preserved
 loop-level-preserved c =
@@ -35,10 +29,10 @@ loop-level-preserved c =
     let T = a.tables.now in
     let e = c.new_pages-n.ensures.value ∙ ap (region_more a.p T (λ g. get_or a.come.now g 0)) c.region_at.ensures in
     let m = sum_more (λ i. region_more a.p T (λ g. get_or a.come.now g 0) (region_at a.p a.thread i)) l.level in
-    (omega arith, omega (arith, e, m, l.invariant.1), omega (arith, c.new_pages-n.ensures.upper_bound, l.invariant.2))
+    (omega (arith, e, m, l.invariant.0), omega (arith, c.new_pages-n.ensures.upper_bound, l.invariant.1))
 
 pub returns : goal.returns
 returns c =
     let a = c.args in
     let e : c.loop-level.level ≡ a.levels = omega arith in
-    c.loop-level.invariant.1 ∙ ap (more_below a.p a.tables.now (λ g. get_or a.come.now g 0) (region_at a.p a.thread)) e
+    c.loop-level.invariant.0 ∙ ap (more_below a.p a.tables.now (λ g. get_or a.come.now g 0) (region_at a.p a.thread)) e
