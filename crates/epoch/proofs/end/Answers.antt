@@ -21,18 +21,18 @@ abbrev after : goal.After-mark_survivors → Words
 after c =
     words c.mark_survivors.new.cells c.args.remember.now c.mark_survivors.new.tables
 
-level : (c : goal.After-mark_survivors) → depth_of (let a = c.args in words a.cells.now a.remember.now a.tables.now).tables c.args.thread ≡ c.depth.result
+level : (c : goal.After-mark_survivors) → depth_of (let a = c.args in words a.cells.now a.remember.now a.tables.now).tables c.args.thread ≡ c.depth-level.result
 level c =
-    sym c.depth.ensures
+    sym c.depth-level.ensures
 
-ending : (c : goal.After-mark_survivors) → Ending c.args.p c.args.thread c.depth.result c.region_at-region.result (let a = c.args in words a.cells.now a.remember.now a.tables.now) (words c.mark_survivors.new.cells c.args.remember.now c.mark_survivors.new.tables)
+ending : (c : goal.After-mark_survivors) → Ending c.args.p c.args.thread c.depth-level.result c.region_at-region.result (let a = c.args in words a.cells.now a.remember.now a.tables.now) (words c.mark_survivors.new.cells c.args.remember.now c.mark_survivors.new.tables)
 ending c =
     let a = c.args in
     record {
       whole = c.requires.whole_for;
       fits = (omega arith);
       thread = c.requires.thread_lt_threads;
-      level = sym c.depth.ensures;
+      level = sym c.depth-level.ensures;
       epoch = omega (arith, c.if-level-eq0.false);
       region = c.region_at-region.ensures;
       marks = c.mark_survivors.ensures.marked;
@@ -41,8 +41,8 @@ ending c =
 unmarked : (c : goal.After-mark_survivors) → c.mark_survivors.result ≡ false → (page : ℕ) → page < c.args.p.pages → mark_of c.args.p (words c.mark_survivors.new.cells c.args.remember.now c.mark_survivors.new.tables).tables page ≡ 0
 unmarked c e = none-survives c.args.p (before c) _ (after c) (ending c).marks c.mark_survivors.result c.mark_survivors.ensures.says e
 
-pub depth-requires : goal.depth-requires
-depth-requires c =
+pub depth-level-requires : goal.depth-level-requires
+depth-level-requires c =
     let a = c.args in record {
       room = whole_room a.p (words a.cells.now a.remember.now a.tables.now) c.requires.whole_for (omega arith);
       k_lt_threads = c.requires.thread_lt_threads;
@@ -52,7 +52,7 @@ pub returns-then-level-eq0 : goal.returns-then-level-eq0
 returns-then-level-eq0 c =
     let a = c.args in record {
       did_here = did-answer refl
-          (refused-shut a.p (words a.cells.now a.remember.now a.tables.now) c.requires.whole_for a.thread c.requires.thread_lt_threads (sym c.depth.ensures ∙ c.if-level-eq0.true));
+          (refused-shut a.p (words a.cells.now a.remember.now a.tables.now) c.requires.whole_for a.thread c.requires.thread_lt_threads (sym c.depth-level.ensures ∙ c.if-level-eq0.true));
       noted_2 = c.requires.noted;
       chains_after = chains-same c.requires.chains_whole;
     }
@@ -61,13 +61,13 @@ pub region_at-region-requires : goal.region_at-region-requires
 region_at-region-requires c =
     let a = c.args in
     let rm = whole_room a.p (words a.cells.now a.remember.now a.tables.now) c.requires.whole_for (omega arith) in
-    (rm.threads-high, rm.depth-high, c.requires.thread_lt_threads, omega (arith, c.requires.whole_for.depths a.thread c.requires.thread_lt_threads, c.depth.ensures))
+    (rm.threads-high, rm.depth-high, c.requires.thread_lt_threads, omega (arith, c.requires.whole_for.depths a.thread c.requires.thread_lt_threads, c.depth-level.ensures))
 
 pub mark_survivors-requires : goal.mark_survivors-requires
 mark_survivors-requires c = record {
   whole_for = c.requires.whole_for;
   chains_whole = c.requires.chains_whole;
-  thread_lt_threads = (c.requires.thread_lt_threads, c.depth.ensures, omega (arith, c.if-level-eq0.false), c.region_at-region.ensures);
+  thread_lt_threads = (c.requires.thread_lt_threads, c.depth-level.ensures, omega (arith, c.if-level-eq0.false), c.region_at-region.ensures);
 }
 
 pub end_marked-requires : goal.end_marked-requires

@@ -1,5 +1,8 @@
 -- The listed pages are counted over, and the marking is either undone or evacuated: at each way out the promise of code 2 holds.
-use Rattle.std.proofs.Common.{◌≡◌, sym, ◌∙◌, arith}
+use Rattle.std.proofs.Common.{ℕ, ◌≡◌, ◌<◌, refl, sym, ap, ◌∙◌, arith}
+use Rattle.rules.specs.declared.Refusal.{Refusal}
+use Rattle.rules.specs.Refusals.{number_of, asked}
+use Rattle.rules.specs.declared.Refusal.TheVariants as R
 use Rattle.chains.proofs.LentChains.{chains-same}
 use Rattle.promises.proofs.Questions.{did-answer}
 use Rattle.lists.specs.Zeros.{replicate-at}
@@ -13,6 +16,25 @@ use Rattle.ending.specs.PagesEnough.{targets-low}
 use Rattle.ending.specs.Stages.{bounds, listed}
 use Rattle.epoch.specs.EndDid.{marked-ready, shaped-now, holding-now, others-stay, paged-now, out-refused, out-noted, accepted}
 use Rattle.epoch.proofs.end_marked.Goals as goal
+
+-- every refusal has a number other than 0
+number-positive : (q : Refusal) → 0 < number_of q
+number-positive R.Sizes = omega arith
+number-positive R.Short = omega arith
+number-positive R.NotWhole = omega arith
+number-positive R.Block = omega arith
+number-positive R.Answers = omega arith
+number-positive R.Code = omega arith
+number-positive R.Thread = omega arith
+number-positive R.Operand = omega arith
+number-positive R.Null = omega arith
+number-positive R.Field = omega arith
+number-positive R.Depth = omega arith
+number-positive R.NoEpoch = omega arith
+number-positive R.Pages = omega arith
+number-positive R.Entries = omega arith
+number-positive R.Rows = omega arith
+number-positive R.Chains = omega arith
 
 pub list_pages-n-requires : goal.list_pages-n-requires
 list_pages-n-requires c =
@@ -37,8 +59,8 @@ count_listed-k-requires c =
       by_index_4 = λ g. replicate-at most_regions g 0;
     }
 
-pub ask_room-q-requires : goal.ask_room-q-requires
-ask_room-q-requires c =
+pub ask_room-asked-requires : goal.ask_room-asked-requires
+ask_room-asked-requires c =
     let m = c.requires.by_index.2 in
     let k = c.count_listed-k in record {
       shaped = shaped-now m;
@@ -64,11 +86,10 @@ unmark-requires c =
       by_index = unlisted m.marks (listed m o);
     }
 
-pub returns-then-q-ne0 : goal.returns-then-q-ne0
-returns-then-q-ne0 c = record {
+pub returns-in-Err : goal.returns-in-Err
+returns-in-Err c = record {
   by_index_2 = λ cells tables m.
-      did-answer c.refused.ensures
-      (out-refused m c.ask_room-q.result (omega (arith, c.if-q-ne0.true)) c.ask_room-q.ensures c.unmark.ensures);
+      out-refused m (number_of c.in-Err.refusal) (number-positive c.in-Err.refusal) (sym (ap asked c.in-Err.is) ∙ c.ask_room-asked.ensures) c.unmark.ensures;
   noted_2 = out-noted c.requires.by_index.2 c.unmark.ensures c.requires.noted;
   chains_after = chains-same c.requires.chains_whole;
 }
@@ -78,7 +99,7 @@ evacuate-requires c =
     let a = c.args in
     let m = c.requires.by_index.2 in
     let k = c.count_listed-k in
-    let yes = sym (let z : c.ask_room-q.result ≡ 0 = omega (arith, c.if-q-ne0.false) in z) ∙ c.ask_room-q.ensures in record {
+    let yes = sym (ap asked c.in_default.is) ∙ c.ask_room-asked.ensures in record {
       by_index = (c.requires.by_index.0, c.requires.by_index.1, m, accepted m yes);
       lists = lists-front c.list_pages-n.ensures;
       by_index_2 = (λ g low high z. sym (k.ensures.arrivals g ∙ over-cells a.p a.tables.now (goes_to a.cells.now g)) ∙ z);
@@ -89,7 +110,7 @@ evacuate-requires c =
 pub returns : goal.returns
 returns c = record {
   by_index_2 = λ cells tables m.
-      let a = accepted m (sym (let z : c.ask_room-q.result ≡ 0 = omega (arith, c.if-q-ne0.false) in z) ∙ c.ask_room-q.ensures) in
+      let a = accepted m (sym (ap asked c.in_default.is) ∙ c.ask_room-asked.ensures) in
       did-answer refl (ended_here m a (c.evacuate.ensures.by_index_3 cells tables m a));
   noted_2 = c.evacuate.ensures.noted_2;
   chains_after = c.evacuate.ensures.chains_after;

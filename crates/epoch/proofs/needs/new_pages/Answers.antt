@@ -20,6 +20,6 @@ pub returns : goal.returns
 returns c =
     let a = c.args in
     let T = a.tables.now in record {
-      value = ap₂ (λ (a b : ℕ). a - b) c.pages_for.ensures c.pages_for-2.ensures ∙ more-is a.p T (λ h. get_or a.come.now h 0) a.g c.count.result (get_or a.come.now a.g 0) c.count.ensures refl;
+      value = ap₂ (λ (a b : ℕ). a - b) c.pages_for.ensures c.pages_for-2.ensures ∙ more-is a.p T (λ h. get_or a.come.now h 0) a.g c.count-have.result (get_or a.come.now a.g 0) c.count-have.ensures refl;
       upper_bound = omega (arith, c.type_inv.come c.args.g, c.pages_for.ensures, c.pages_for-2.ensures);
     }
