@@ -33,7 +33,9 @@ fn obey(
     let o = commands::obey::obey(p, cells, remember, tables, chains, notes, m);
     match o {
         Obeyed::Answered(a) => a,
-        Obeyed::Ends(t) => epoch::end(p, cells, remember, tables, chains, notes, t as usize),
+        Obeyed::Ends(t) => Answer::from(epoch::end(
+            p, cells, remember, tables, chains, notes, t as usize,
+        )),
         Obeyed::Collects(_) => collect::collect(p, cells, remember, tables, chains, notes),
     }
 }

@@ -1,5 +1,6 @@
 -- What `commands` answers is the answer; an end or a collection starts from the words as they were.
 use Rattle.chains.proofs.Walking.{whole_long}
+use Rattle.promises.proofs.Questions.{did-answer}
 use Rattle.heap.specs.Running.{obeyed-answered, left_end, left-collection, left-whole, left-did, chains-there, chains-over}
 use Rattle.heap.proofs.obey.Goals as goal
 
@@ -44,7 +45,7 @@ returns-in-Ends c =
     let obey = c.obey-o in
     let end = c.end in
     let l = left_end args.p obey.result obey.ensures.obeys c.in-Ends.is in record {
-      did_here = left-did l end.ensures.did_here;
+      did_here = did-answer c.from.ensures (left-did l end.ensures.did_here);
       chains_after = chains-over args.chains.now (left-whole c.requires.whole_for l) obey.ensures.chains_after _ end.ensures.chains_after;
       noted_2 = end.ensures.noted_2;
     }
