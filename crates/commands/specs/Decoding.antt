@@ -214,31 +214,9 @@ decoded-means {s} {m} {d} g =
     subst (Meant s m) (sym (g.command ∙ decoded-named s m f))
     (back_by s (decode m.code) m.code m.thread m.a m.b m.c (code-back m.code r.0) r.0 (ltb-true m.thread s.threads r.1) r.2)
 
--- the number of a question is not 0
-pub question-nonzero : (q : Refusal) → refusals.number_of q ≢ 0
-question-nonzero q =
-    elim q as (λ r. refusals.number_of r ≢ 0) [
-      | R.Sizes ↦ λ e. omega arith
-      | R.Short ↦ λ e. omega arith
-      | R.NotWhole ↦ λ e. omega arith
-      | R.Block ↦ λ e. omega arith
-      | R.Answers ↦ λ e. omega arith
-      | R.Code ↦ λ e. omega arith
-      | R.Thread ↦ λ e. omega arith
-      | R.Operand ↦ λ e. omega arith
-      | R.Null ↦ λ e. omega arith
-      | R.Field ↦ λ e. omega arith
-      | R.Depth ↦ λ e. omega arith
-      | R.NoEpoch ↦ λ e. omega arith
-      | R.Pages ↦ λ e. omega arith
-      | R.Entries ↦ λ e. omega arith
-      | R.Rows ↦ λ e. omega arith
-      | R.Chains ↦ λ e. omega arith
-    ]
-
--- nor is that of a refusal
+-- the number of what was refused is not 0
 pub refused-number : {s : Sizes} {m : Command} (q : Refusal) → Decodes s m (Err q) → 0 < refusals.number_of q
-refused-number q g = omega (arith, question-nonzero q)
+refused-number q g = omega (arith, refusals.question-nonzero q)
 
 first-pos : (x y : ℕ) → 0 < x → first x y ≡ x
 first-pos zero y l = absurd (let o : ⊥ = omega arith in o)

@@ -39,9 +39,7 @@ fn end_marked(
     let n = pages::list_pages(p, tables, epoch.region, &mut list);
     let listed = &list[..n];
     let k = census::count::count_listed(p, cells, tables, listed, &mut come);
-    let asked = needs::ask_room(
-        p, cells, remember, tables, chains, listed, &come, epoch, k,
-    );
+    let asked = needs::ask_room(p, cells, remember, tables, chains, listed, &come, epoch, k);
     if let Err(refusal) = asked {
         mark::unmark::unmark(p, cells, tables, listed);
         return Err(refusal);

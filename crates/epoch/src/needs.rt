@@ -76,7 +76,11 @@ pub fn ask_room(
     requires thread_lt_threads { (epoch.thread < p.threads) × (epoch.level ≤ p.depth) }
     ensures { asked result ≡ room_asked p cells.now remember.now tables.now epoch.thread epoch.level epoch.region }
 {
-    let Epoch { thread, level, region } = epoch;
+    let Epoch {
+        thread,
+        level,
+        region,
+    } = epoch;
     let needed = needed_pages(p, tables, come, thread, level);
     let free = pages::free_pages(p, tables);
     if free < needed {

@@ -1,8 +1,6 @@
 -- The listed pages are counted over, and the marking is either undone or evacuated: at each way out the promise of code 2 holds.
-use Rattle.std.proofs.Common.{ℕ, ◌≡◌, ◌<◌, refl, sym, ap, ◌∙◌, arith}
-use Rattle.rules.specs.declared.Refusal.{Refusal}
-use Rattle.rules.specs.Refusals.{number_of, asked}
-use Rattle.rules.specs.declared.Refusal.TheVariants as R
+use Rattle.std.proofs.Common.{◌≡◌, refl, sym, ap, ◌∙◌, arith}
+use Rattle.rules.specs.Refusals.{number_of, asked, question-nonzero}
 use Rattle.chains.proofs.LentChains.{chains-same}
 use Rattle.promises.proofs.Questions.{did-answer}
 use Rattle.lists.specs.Zeros.{replicate-at}
@@ -16,25 +14,6 @@ use Rattle.ending.specs.PagesEnough.{targets-low}
 use Rattle.ending.specs.Stages.{bounds, listed}
 use Rattle.epoch.specs.EndDid.{marked-ready, shaped-now, holding-now, others-stay, paged-now, out-refused, out-noted, accepted}
 use Rattle.epoch.proofs.end_marked.Goals as goal
-
--- every refusal has a number other than 0
-number-positive : (q : Refusal) → 0 < number_of q
-number-positive R.Sizes = omega arith
-number-positive R.Short = omega arith
-number-positive R.NotWhole = omega arith
-number-positive R.Block = omega arith
-number-positive R.Answers = omega arith
-number-positive R.Code = omega arith
-number-positive R.Thread = omega arith
-number-positive R.Operand = omega arith
-number-positive R.Null = omega arith
-number-positive R.Field = omega arith
-number-positive R.Depth = omega arith
-number-positive R.NoEpoch = omega arith
-number-positive R.Pages = omega arith
-number-positive R.Entries = omega arith
-number-positive R.Rows = omega arith
-number-positive R.Chains = omega arith
 
 pub list_pages-n-requires : goal.list_pages-n-requires
 list_pages-n-requires c =
@@ -89,7 +68,7 @@ unmark-requires c =
 pub returns-in-Err : goal.returns-in-Err
 returns-in-Err c = record {
   by_index_2 = λ cells tables m.
-      out-refused m (number_of c.in-Err.refusal) (number-positive c.in-Err.refusal) (sym (ap asked c.in-Err.is) ∙ c.ask_room-asked.ensures) c.unmark.ensures;
+      out-refused m (number_of c.in-Err.refusal) (omega (arith, question-nonzero c.in-Err.refusal)) (sym (ap asked c.in-Err.is) ∙ c.ask_room-asked.ensures) c.unmark.ensures;
   noted_2 = out-noted c.requires.by_index.2 c.unmark.ensures c.requires.noted;
   chains_after = chains-same c.requires.chains_whole;
 }

@@ -6,7 +6,7 @@ use Rattle.layout.specs.Words.{words}
 use Rattle.pages.specs.Noted.{none-freed-before}
 use Rattle.commands.specs.ThreadVariables.{variable_at, variable-low}
 use Rattle.promises.specs.Reading.{whole_room}
-use Rattle.commands.specs.Decoding.{question-nonzero}
+use Rattle.rules.specs.Refusals.{question-nonzero}
 use Rattle.commands.specs.Objects.{names-cell, is_field, load-refused, load-done}
 use Rattle.commands.proofs.fields.load.Goals as goal
 

@@ -4,7 +4,7 @@ use Rattle.layout.specs.declared.Kind.TheVariants.{Number}
 use Rattle.std.proofs.lemmas.Result.{err_from_is_err_and}
 use Rattle.layout.specs.Words.{words}
 use Rattle.promises.specs.Reading.{whole_room}
-use Rattle.commands.specs.Decoding.{question-nonzero}
+use Rattle.rules.specs.Refusals.{question-nonzero}
 use Rattle.commands.specs.Objects.{names-cell, is_field, read-refused, read_done}
 use Rattle.commands.proofs.fields.read.Goals as goal
 

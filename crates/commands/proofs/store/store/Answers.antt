@@ -3,7 +3,7 @@ use Rattle.std.proofs.Common.{refl, arith}
 use Rattle.std.proofs.lemmas.Result.{err_from_is_err_and}
 use Rattle.layout.specs.Words.{words}
 use Rattle.promises.specs.Reading.{whole_room}
-use Rattle.commands.specs.Decoding.{question-nonzero}
+use Rattle.rules.specs.Refusals.{question-nonzero}
 use Rattle.commands.specs.Objects.{names-cell}
 use Rattle.commands.specs.Storing.{storing, store-refused, store-did}
 use Rattle.commands.proofs.store.store.Goals as goal
