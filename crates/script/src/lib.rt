@@ -26,7 +26,8 @@ pub struct Reader {
     malformed: bool,
 }
 
-// What one more byte brings: the line goes on, or it has ended and the next byte begins another.
+// What one more byte brings: the line goes on, or it has ended and the next byte begins another. Neither is an error or an absence, here
+// and in the two enums below, so they are no Result and no Option.
 #[derive(Clone, Copy)]
 pub enum Step {
     More(Reader),
