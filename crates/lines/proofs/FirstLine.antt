@@ -15,7 +15,7 @@ use Rattle.promises.specs.Promises as pr
 use Rattle.promises.specs.Promises.{LongEnough, PrepareAsked, out_of_range, short, Unused, Prepared}
 use Rattle.promises.proofs.Preparing.{prepared-is}
 use Rattle.script.specs.declared.Malformed.{Malformed}
-use Rattle.script.specs.Text.{Line, numbers, malformed_line}
+use Rattle.script.specs.Text.{Line}
 use Rattle.std.specs.Prelude.{Ok, Err}
 use Rattle.printed.specs.Printed.{sizes_of, between, accepted, running, stopped, takes}
 use Rattle.lines.specs.Lines.{Lent, Holds, Prepares, LineChanges, Begun}

@@ -2,7 +2,7 @@
 use Rattle.std.specs.Prelude.{refl, List, [], ◌∷◌, ◌++◌}
 use Rattle.std.proofs.Common.{subst}
 use Rattle.promises.specs.Slices.{Slices}
-use Rattle.script.specs.Text.{Line, numbers, malformed_line}
+use Rattle.script.specs.Text.{Line}
 use Rattle.printed.specs.Printed.{Session, stopped, takes, takes_all}
 use Rattle.lines.specs.Lines.{LineChanges, LinesChange}
 

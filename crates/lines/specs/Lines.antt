@@ -7,7 +7,7 @@ use Rattle.chains.specs.Chains.{ChainsWhole, with_chains}
 use Rattle.promises.specs.Slices.{Slices}
 use Rattle.promises.specs.StandsFor.{StandsFor}
 use Rattle.promises.specs.Promises.{Did, Unused}
-use Rattle.script.specs.Text.{Line, numbers, malformed_line}
+use Rattle.script.specs.Text.{Line}
 use Rattle.std.specs.Prelude.{Ok, Err}
 use Rattle.printed.specs.Printed.{sizes_of, command_of, accepted, Session, opening, running, stopped, takes}
 

@@ -1,6 +1,6 @@
 -- A block that repeats commands, and what running it again and again answers.
 use Rattle.std.specs.Prelude.{ℕ, ◌+◌, ◌*◌, ◌/◌, ◌%◌, ◌<◌, ◌≤◌, ◌≡◌, refl, Bool, ◌&&◌, List, [], ◌∷◌, length, get_or, set}
-use Rattle.std.proofs.Common.{arith, ap, ap₂, subst, ◌∙◌, length-set, eq-eqb, ne_eqb}
+use Rattle.std.proofs.Common.{arith, ap, subst, ◌∙◌, length-set}
 use Rattle.std.proofs.Math.Decide.{ℕ_discrete}
 use Rattle.std.proofs.Math.Path.{sym}
 use Rattle.std.proofs.Math.Dec.{eqb}

@@ -1,4 +1,4 @@
-use Rattle.std.proofs.Common.{◌+◌, ◌*◌, ◌≤◌, ◌<◌, ◌≡◌, refl, ◌∙◌, arith, length}
+use Rattle.std.proofs.Common.{◌+◌, ◌*◌, ◌≤◌, ◌<◌, ◌≡◌, arith, length}
 use Rattle.report.specs.Tables.{rows_in}
 use Rattle.report.proofs.Stands.{rows_few}
 use Rattle.lines.specs.Reporting.{rows_none, row-end, row_next, rows_all}

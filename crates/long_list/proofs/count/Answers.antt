@@ -1,4 +1,4 @@
-use Rattle.std.proofs.Common.{ℕ, Bool, ◌+◌, ◌/◌, ◌≡◌, refl, sym, ap, ◌∙◌, arith, length}
+use Rattle.std.proofs.Common.{ℕ, ◌+◌, ◌/◌, ◌≡◌, refl, sym, ap, ◌∙◌, arith, length}
 use Rattle.lists.specs.Counting.{bit, sum, sum_more}
 use Rattle.long_list.specs.Repeated.{is_answer, answers_of}
 use Rattle.long_list.proofs.count.Goals as goal
