@@ -4,40 +4,37 @@
 ghost use Rattle.std.specs.Prelude.{ℕ, ◌+◌, ◌*◌, ◌/◌, ◌<◌, ◌≤◌, length, take, drop};
 ghost use Rattle.rules.specs.declared.Sizes.{Sizes};
 ghost use Rattle.rules.specs.Rules.{Regioned};
-ghost use Rattle.layout.specs.Words.{words};
 ghost use Rattle.chains.specs.Chains.{ChainsWhole};
-ghost use Rattle.promises.specs.Slices.{slices};
 ghost use Rattle.promises.specs.StandsFor.{StandsFor};
 ghost use Rattle.printed.specs.Printed.{running};
 ghost use Rattle.printed.specs.Pieces.{machine};
-ghost use Rattle.lines.specs.Lines.{Lent, Here, Holds};
+ghost use Rattle.lines.specs.Lines.{Here, Holds};
+ghost use Rattle.lines.specs.Held.{held};
 ghost use Rattle.stages.specs.Stages.{Feeds, most_printed, Room};
 ghost use Rattle.answers.specs.Answers.{Answered, Counted};
 
+use lines::Memory;
 use script::Reader;
 use stages::Fed;
 
 // Obeys the commands in the first `used` words of a block, at most 1,639, and writes a line for each answer.
 fn answer(
-    cells: &mut [u32],
-    remember: &mut [u32],
-    tables: &mut [u32],
-    chains: &mut [u32],
+    memory: &mut Memory,
     block: &[u32],
     used: usize,
     out: &mut [u8],
 ) -> usize
     requires counted { Counted used block.now out.old }
-    requires here { Here (slices cells.old remember.old tables.old chains.old) }
-    ensures by_index { (s : Sizes) (h : Regioned) → (cell_of : ℕ → ℕ) → StandsFor s (words cells.old remember.old tables.old) h cell_of → ChainsWhole s remember.old chains.old → Answered s h (take used block.now) (slices cells.old remember.old tables.old chains.old) out.old result out.new (slices cells.new remember.new tables.new chains.new) }
+    requires here { Here (held memory.old) }
+    ensures by_index { (s : Sizes) (h : Regioned) → (cell_of : ℕ → ℕ) → StandsFor s (held memory.old).words h cell_of → ChainsWhole s memory.old.remember memory.old.chains → Answered s h (take used block.now) (held memory.old) out.old result out.new (held memory.new) }
     ensures upper_bound { result ≤ 22 * (used / 5) }
 {
     let mut answers = [0u32; 3278];
     heap::taldreku_run(
-        cells,
-        remember,
-        tables,
-        chains,
+        &mut memory.cells,
+        &mut memory.remember,
+        &mut memory.tables,
+        &mut memory.chains,
         &block[..used],
         &mut answers,
     );
@@ -51,20 +48,17 @@ pub fn obey(
     line: u64,
     text: &[u8],
     from: usize,
-    cells: &mut [u32],
-    remember: &mut [u32],
-    tables: &mut [u32],
-    chains: &mut [u32],
+    memory: &mut Memory,
     out: &mut [u8],
 ) -> Fed
     requires room { Room text.now out.old × (line + length text.now < 18446744073709551616) }
-    requires here { Here (slices cells.old remember.old tables.old chains.old) }
-    ensures feeds { (s : Sizes) (h : Regioned) → Holds (running s h line) (slices cells.old remember.old tables.old chains.old) → Lent (slices cells.old remember.old tables.old chains.old) → Feeds (machine reader (running s h line)) (drop from text.now) (slices cells.old remember.old tables.old chains.old) out.old result out.new (slices cells.new remember.new tables.new chains.new) }
+    requires here { Here (held memory.old) }
+    ensures feeds { (s : Sizes) (h : Regioned) → Holds (running s h line) (held memory.old) → Feeds (machine reader (running s h line)) (drop from text.now) (held memory.old) out.old result out.new (held memory.new) }
     ensures length_bound { result.length ≤ most_printed (length text.now) }
 {
     let mut block = [0u32; 8200];
     let filled = script::blocks::read_block(text, from, reader, &mut block, 0);
     let used = stages::words_in(filled);
-    let end = answer(cells, remember, tables, chains, &block, used, out);
+    let end = answer(memory, &block, used, out);
     stages::proceed(filled, line, end, out)
 }

@@ -6,8 +6,10 @@ ghost use Rattle.promises.specs.Slices.{slices};
 ghost use Rattle.script.specs.Writing.{Put};
 ghost use Rattle.printed.specs.Printed.{ends_with};
 ghost use Rattle.printed.specs.Pieces.{Machine};
+ghost use Rattle.lines.specs.Held.{held};
 ghost use Rattle.stages.specs.Stages.{At, Placed, line_of, Closes};
 
+use lines::Memory;
 use stages::Stage;
 
 // What is printed at the end of the input, after the last line.
@@ -27,22 +29,19 @@ fn put_end(stage: Stage, remember: &[u32], tables: &[u32], out: &mut [u8], at: u
 // Ends the input: the missing line feed is put to a line that has begun, and what is printed then stands at the start of the buffer.
 pub fn close(
     stage: Stage,
-    cells: &mut [u32],
-    remember: &mut [u32],
-    tables: &mut [u32],
-    chains: &mut [u32],
+    memory: &mut Memory,
     out: &mut [u8],
 ) -> usize
     requires in_bounds { (5779 ≤ length out.old) × (line_of stage + 1 < 18446744073709551616) }
-    requires placed { Placed stage (slices cells.old remember.old tables.old chains.old) }
-    ensures closes { (m : Machine) → At m stage (slices cells.old remember.old tables.old chains.old) → Closes m (slices cells.old remember.old tables.old chains.old) out.old result out.new (slices cells.new remember.new tables.new chains.new) }
+    requires placed { Placed stage (held memory.old) }
+    ensures closes { (m : Machine) → At m stage (held memory.old) → Closes m (held memory.old) out.old result out.new (held memory.new) }
     ensures upper_bound { result ≤ 5779 }
 {
     if stages::is_begun(stage) {
-        let fed = session::feed(stage, b"\n", cells, remember, tables, chains, out);
+        let fed = session::feed(stage, b"\n", memory, out);
         let rest = fed.stage;
-        put_end(rest, remember, tables, out, fed.length)
+        put_end(rest, &memory.remember, &memory.tables, out, fed.length)
     } else {
-        put_end(stage, remember, tables, out, 0)
+        put_end(stage, &memory.remember, &memory.tables, out, 0)
     }
 }

@@ -5,3 +5,4 @@ pub mod Lines
 -- from what the callees promise to each step
 pub mod Changes
 pub mod Reporting
+pub mod Held

@@ -10,27 +10,32 @@ ghost use Rattle.promises.specs.StandsFor.{StandsFor};
 ghost use Rattle.report.specs.Tables.{WholeTables, rows_in};
 ghost use Rattle.script.specs.Writing.{Put};
 ghost use Rattle.printed.specs.Printed.{rows_text, reported};
-ghost use Rattle.lines.specs.Lines.{Lent, Here, Begun};
+ghost use Rattle.lines.specs.Lines.{Here, Begun};
+ghost use Rattle.lines.specs.Held.{held};
 
+pub mod lent;
+
+pub use lent::Memory;
 use rules::Sizes;
 use script::{Line, Malformed};
 
 // Prepares the tables if a line has sizes that are accepted.
-pub fn prepare(
-    line: Line,
-    cells: &mut [u32],
-    remember: &mut [u32],
-    tables: &mut [u32],
-    chains: &mut [u32],
-) -> bool
-    requires { Lent (slices cells.old remember.old tables.old chains.old) }
-    ensures { Begun line (slices cells.old remember.old tables.old chains.old) result (slices cells.new remember.new tables.new chains.new) }
+pub fn prepare(line: Line, memory: &mut Memory) -> bool
+    ensures { Begun line (held memory.old) result (held memory.new) }
 {
     match line {
         Ok(numbers) => {
             let [threads, variables, depth, pages, entries] = numbers;
             let number = prepare::taldreku_prepare(
-                threads, variables, depth, pages, entries, cells, remember, tables, chains,
+                threads,
+                variables,
+                depth,
+                pages,
+                entries,
+                &mut memory.cells,
+                &mut memory.remember,
+                &mut memory.tables,
+                &mut memory.chains,
             );
             number == 0
         }

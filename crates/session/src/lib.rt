@@ -3,12 +3,12 @@
 #![tactic(auto)]
 
 ghost use Rattle.std.specs.Prelude.{◌+◌, ◌<◌, ◌≤◌, length};
-ghost use Rattle.promises.specs.Slices.{slices};
 ghost use Rattle.printed.specs.Printed.{opening};
 ghost use Rattle.printed.specs.Pieces.{Machine, machine};
-ghost use Rattle.lines.specs.Lines.{Lent};
+ghost use Rattle.lines.specs.Held.{held};
 ghost use Rattle.stages.specs.Stages.{At, Placed, line_of, Feeds, most_printed, Room};
 
+use lines::Memory;
 use script::{Reader, Scan};
 use stages::{Fed, Stage};
 
@@ -16,15 +16,11 @@ use stages::{Fed, Stage};
 fn begin(
     reader: Reader,
     text: &[u8],
-    cells: &mut [u32],
-    remember: &mut [u32],
-    tables: &mut [u32],
-    chains: &mut [u32],
+    memory: &mut Memory,
     out: &mut [u8],
 ) -> Fed
     requires room { Room text.now out.old }
-    requires lent { Lent (slices cells.old remember.old tables.old chains.old) }
-    ensures feeds { Feeds (machine reader opening) text.now (slices cells.old remember.old tables.old chains.old) out.old result out.new (slices cells.new remember.new tables.new chains.new) }
+    ensures feeds { Feeds (machine reader opening) text.now (held memory.old) out.old result out.new (held memory.new) }
     ensures length_bound { result.length ≤ most_printed (length text.now) }
 {
     let scan = script::read::read_line(text, 0, reader);
@@ -34,18 +30,8 @@ fn begin(
             length: 0,
         },
         Scan::Found(line, at) => {
-            if lines::prepare(line, cells, remember, tables, chains) {
-                answers::obey(
-                    script::read::start(),
-                    2,
-                    text,
-                    at,
-                    cells,
-                    remember,
-                    tables,
-                    chains,
-                    out,
-                )
+            if lines::prepare(line, memory) {
+                answers::obey(script::read::start(), 2, text, at, memory, out)
             } else {
                 Fed {
                     stage: Stage::Stopped,
@@ -60,22 +46,17 @@ fn begin(
 pub fn feed(
     stage: Stage,
     text: &[u8],
-    cells: &mut [u32],
-    remember: &mut [u32],
-    tables: &mut [u32],
-    chains: &mut [u32],
+    memory: &mut Memory,
     out: &mut [u8],
 ) -> Fed
     requires room { Room text.now out.old × (line_of stage + length text.now < 18446744073709551616) }
-    requires placed { Placed stage (slices cells.old remember.old tables.old chains.old) }
-    ensures feeds { (m : Machine) → At m stage (slices cells.old remember.old tables.old chains.old) → Feeds m text.now (slices cells.old remember.old tables.old chains.old) out.old result out.new (slices cells.new remember.new tables.new chains.new) }
+    requires placed { Placed stage (held memory.old) }
+    ensures feeds { (m : Machine) → At m stage (held memory.old) → Feeds m text.now (held memory.old) out.old result out.new (held memory.new) }
     ensures length_bound { result.length ≤ most_printed (length text.now) }
 {
     match stage {
-        Stage::Opening(reader) => begin(reader, text, cells, remember, tables, chains, out),
-        Stage::Running(reader, line) => answers::obey(
-            reader, line, text, 0, cells, remember, tables, chains, out,
-        ),
+        Stage::Opening(reader) => begin(reader, text, memory, out),
+        Stage::Running(reader, line) => answers::obey(reader, line, text, 0, memory, out),
         Stage::Stopped => Fed {
             stage: Stage::Stopped,
             length: 0,

@@ -3,12 +3,12 @@
 #![tactic(auto)]
 
 ghost use Rattle.std.specs.Prelude.{◌+◌, ◌<◌, ◌≤◌, ◌≡◌, length};
-ghost use Rattle.promises.specs.Slices.{slices};
 ghost use Rattle.printed.specs.Pieces.{Machine};
-ghost use Rattle.lines.specs.Lines.{Lent};
+ghost use Rattle.lines.specs.Held.{held};
 ghost use Rattle.stages.specs.Stages.{At, Placed, line_of};
 ghost use Rattle.stream.specs.Turns.{Buffers, within, ending_of, goes_on, Advances, Turned, Serves};
 
+use lines::Memory;
 use stages::{Fed, Stage};
 use std::io::{Read, Write};
 
@@ -80,24 +80,21 @@ fn print(rt: &impl Eprint, output: &mut impl Write, bytes: &[u8]) -> Printed
 fn advance(
     stage: Stage,
     piece: &[u8],
-    cells: &mut [u32],
-    remember: &mut [u32],
-    tables: &mut [u32],
-    chains: &mut [u32],
+    memory: &mut Memory,
     out: &mut [u8],
 ) -> Fed
     requires piece_len_bound { (length piece.now ≤ 16384) × (36084 ≤ length out.old) × (line_of stage + 16384 < 18446744073709551616) }
-    requires placed { Placed stage (slices cells.old remember.old tables.old chains.old) }
-    ensures advances { (m : Machine) → At m stage (slices cells.old remember.old tables.old chains.old) → Advances m piece.now (slices cells.old remember.old tables.old chains.old) out.old result out.new (slices cells.new remember.new tables.new chains.new) }
+    requires placed { Placed stage (held memory.old) }
+    ensures advances { (m : Machine) → At m stage (held memory.old) → Advances m piece.now (held memory.old) out.old result out.new (held memory.new) }
     ensures length_bound { result.length ≤ 36084 }
 {
     if piece.len() == 0 {
         Fed {
             stage: Stage::Stopped,
-            length: closing::close(stage, cells, remember, tables, chains, out),
+            length: closing::close(stage, memory, out),
         }
     } else {
-        session::feed(stage, piece, cells, remember, tables, chains, out)
+        session::feed(stage, piece, memory, out)
     }
 }
 
@@ -133,15 +130,12 @@ fn turn(
     output: &mut impl Write,
     stage: Stage,
     text: &mut [u8],
-    cells: &mut [u32],
-    remember: &mut [u32],
-    tables: &mut [u32],
-    chains: &mut [u32],
+    memory: &mut Memory,
     out: &mut [u8],
 ) -> Outcome
     requires buffers { Buffers text.old out.old × (line_of stage + 16384 < 18446744073709551616) }
-    requires placed { Placed stage (slices cells.old remember.old tables.old chains.old) }
-    ensures turned { Turned stage (slices cells.old remember.old tables.old chains.old) out.old result text.new out.new (slices cells.new remember.new tables.new chains.new) }
+    requires placed { Placed stage (held memory.old) }
+    ensures turned { Turned stage (held memory.old) out.old result text.new out.new (held memory.new) }
     ensures read_in_bounds { (result.read ≤ length text.new) × (result.printed ≤ 36084) }
 {
     let piece = read_piece(rt, input, text);
@@ -153,7 +147,7 @@ fn turn(
             printed: 0,
         },
         Ok(n) => {
-            let fed = advance(stage, &text[..n], cells, remember, tables, chains, out);
+            let fed = advance(stage, &text[..n], memory, out);
             let length = fed.length;
             let next = fed.stage;
             let printed = print(rt, output, &out[..length]);
@@ -173,23 +167,17 @@ fn go_on(
     input: &mut impl Read,
     output: &mut impl Write,
     text: &mut [u8],
-    cells: &mut [u32],
-    remember: &mut [u32],
-    tables: &mut [u32],
-    chains: &mut [u32],
+    memory: &mut Memory,
     out: &mut [u8],
 ) -> Served
     requires buffers { Buffers text.old out.old }
-    requires lent { Lent (slices cells.old remember.old tables.old chains.old) }
     ensures { Serves result }
 {
     let mut stage = stages::start();
     let mut read: u64 = 0;
     let mut printed: u64 = 0;
     for _ in 0..281474976710656u64 {
-        let done = turn(
-            rt, input, output, stage, text, cells, remember, tables, chains, out,
-        );
+        let done = turn(rt, input, output, stage, text, memory, out);
         read += done.read as u64;
         printed += done.printed as u64;
         let ending = done.ending;
@@ -214,20 +202,19 @@ pub fn serve(rt: &impl Eprint, input: &mut impl Read, output: &mut impl Write) -
     ensures { Serves result }
 {
     let mut text = [0u8; 16384];
-    let mut cells = [0u32; 8192];
-    let mut remember = [0u32; 2050];
-    let mut tables = [0u32; 760];
-    let mut chains = [0u32; 1153];
+    let mut memory = Memory {
+        cells: [0; 8192],
+        remember: [0; 2050],
+        tables: [0; 760],
+        chains: [0; 1153],
+    };
     let mut out = [0u8; 36084];
     go_on(
         rt,
         input,
         output,
         &mut text,
-        &mut cells,
-        &mut remember,
-        &mut tables,
-        &mut chains,
+        &mut memory,
         &mut out,
     )
 }

@@ -4,9 +4,6 @@ use lib.ListN.{length-replicate}
 use Rattle.answers.specs.Answering.{answered}
 use Rattle.answers.proofs.answer.Goals as goal
 
-pub slice_bounds-taldreku_run-end : goal.slice_bounds-taldreku_run-end
-slice_bounds-taldreku_run-end c = sym (length-take-le _ _ c.requires.counted.words)
-
 pub returns : goal.returns
 returns c =
     let args = c.args in
