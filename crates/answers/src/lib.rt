@@ -18,12 +18,7 @@ use script::Reader;
 use stages::Fed;
 
 // Obeys the commands in the first `used` words of a block, at most 1,639, and writes a line for each answer.
-fn answer(
-    memory: &mut Memory,
-    block: &[u32],
-    used: usize,
-    out: &mut [u8],
-) -> usize
+fn answer(memory: &mut Memory, block: &[u32], used: usize, out: &mut [u8]) -> usize
     requires counted { Counted used block.now out.old }
     requires here { Here (held memory.old) }
     ensures by_index { (s : Sizes) (h : Regioned) → (cell_of : ℕ → ℕ) → StandsFor s (held memory.old).words h cell_of → ChainsWhole s memory.old.remember memory.old.chains → Answered s h (take used block.now) (held memory.old) out.old result out.new (held memory.new) }

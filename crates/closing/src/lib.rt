@@ -27,11 +27,7 @@ fn put_end(stage: Stage, remember: &[u32], tables: &[u32], out: &mut [u8], at: u
 }
 
 // Ends the input: the missing line feed is put to a line that has begun, and what is printed then stands at the start of the buffer.
-pub fn close(
-    stage: Stage,
-    memory: &mut Memory,
-    out: &mut [u8],
-) -> usize
+pub fn close(stage: Stage, memory: &mut Memory, out: &mut [u8]) -> usize
     requires in_bounds { (5779 ≤ length out.old) × (line_of stage + 1 < 18446744073709551616) }
     requires placed { Placed stage (held memory.old) }
     ensures closes { (m : Machine) → At m stage (held memory.old) → Closes m (held memory.old) out.old result out.new (held memory.new) }

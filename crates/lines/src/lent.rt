@@ -3,6 +3,7 @@ ghost use Rattle.promises.specs.Slices.{slices};
 ghost use Rattle.lines.specs.Lines.{Lent};
 
 // They are as long as 32 pages and 1,024 remember entries want them, and no longer.
+#[derive(Drop)]
 pub struct Memory {
     pub cells: [u32; 8192],
     pub remember: [u32; 2050],

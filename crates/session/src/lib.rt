@@ -13,12 +13,7 @@ use script::{Reader, Scan};
 use stages::{Fed, Stage};
 
 // The first line, and then the commands of the same piece.
-fn begin(
-    reader: Reader,
-    text: &[u8],
-    memory: &mut Memory,
-    out: &mut [u8],
-) -> Fed
+fn begin(reader: Reader, text: &[u8], memory: &mut Memory, out: &mut [u8]) -> Fed
     requires room { Room text.now out.old }
     ensures feeds { Feeds (machine reader opening) text.now (held memory.old) out.old result out.new (held memory.new) }
     ensures length_bound { result.length ≤ most_printed (length text.now) }
@@ -43,12 +38,7 @@ fn begin(
 }
 
 // Takes a piece of the input, of 16,384 bytes at most, on from a stage, and writes what it prints to the start of a buffer.
-pub fn feed(
-    stage: Stage,
-    text: &[u8],
-    memory: &mut Memory,
-    out: &mut [u8],
-) -> Fed
+pub fn feed(stage: Stage, text: &[u8], memory: &mut Memory, out: &mut [u8]) -> Fed
     requires room { Room text.now out.old × (line_of stage + length text.now < 18446744073709551616) }
     requires placed { Placed stage (held memory.old) }
     ensures feeds { (m : Machine) → At m stage (held memory.old) → Feeds m text.now (held memory.old) out.old result out.new (held memory.new) }

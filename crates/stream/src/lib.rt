@@ -77,12 +77,7 @@ fn print(rt: &impl Eprint, output: &mut impl Write, bytes: &[u8]) -> Printed
 }
 
 // Takes a piece on from a stage, an empty one as the end of the input, and writes what is to be printed to the start of a buffer.
-fn advance(
-    stage: Stage,
-    piece: &[u8],
-    memory: &mut Memory,
-    out: &mut [u8],
-) -> Fed
+fn advance(stage: Stage, piece: &[u8], memory: &mut Memory, out: &mut [u8]) -> Fed
     requires piece_len_bound { (length piece.now ≤ 16384) × (36084 ≤ length out.old) × (line_of stage + 16384 < 18446744073709551616) }
     requires placed { Placed stage (held memory.old) }
     ensures advances { (m : Machine) → At m stage (held memory.old) → Advances m piece.now (held memory.old) out.old result out.new (held memory.new) }
@@ -209,12 +204,5 @@ pub fn serve(rt: &impl Eprint, input: &mut impl Read, output: &mut impl Write) -
         chains: [0; 1153],
     };
     let mut out = [0u8; 36084];
-    go_on(
-        rt,
-        input,
-        output,
-        &mut text,
-        &mut memory,
-        &mut out,
-    )
+    go_on(rt, input, output, &mut text, &mut memory, &mut out)
 }

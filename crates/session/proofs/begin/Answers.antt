@@ -11,13 +11,13 @@ obey-requires c = record {
 
 pub returns-in-Open : goal.returns-in-Open
 returns-in-Open c = record {
-  feeds = opened-none _ _ c.read_line-scan.ensures c.in-Open.is c.requires.lent;
+  feeds = opened-none _ _ c.read_line-scan.ensures c.in-Open.is c.args.memory.now.lent;
   length_bound = omega arith;
 }
 
 pub returns-then-prepare : goal.returns-then-prepare
 returns-then-prepare c = record {
-  feeds = opened-on _ _ c.read_line-scan.ensures c.in-Found.is c.prepare.ensures c.if-prepare.true c.start.ensures c.obey.ensures.feeds;
+  feeds = opened-on _ _ c.read_line-scan.ensures c.in-Found.is c.prepare.ensures c.if-prepare.true c.start.ensures (λ s h l k. c.obey.ensures.feeds s h l);
   length_bound = c.obey.ensures.length_bound;
 }
 

@@ -17,7 +17,7 @@ returns-in-Opening c = record {
 }
 
 pub returns-in-Running : goal.returns-in-Running
-returns-in-Running c = record { feeds = fed-running c.in-Running.is c.obey.ensures.feeds; length_bound = c.obey.ensures.length_bound }
+returns-in-Running c = record { feeds = fed-running c.in-Running.is (λ s h l k. c.obey.ensures.feeds s h l); length_bound = c.obey.ensures.length_bound }
 
 pub returns-in-Stopped : goal.returns-in-Stopped
 returns-in-Stopped c = record { feeds = fed-stopped c.in-Stopped.is; length_bound = omega arith }

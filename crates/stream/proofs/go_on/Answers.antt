@@ -7,7 +7,7 @@ use Rattle.stream.proofs.go_on.Goals as goal
 pub loop-init : goal.loop-init
 loop-init g c = record {
   buffers = c.requires.buffers;
-  fed = so-far-first c.start-stage.ensures c.requires.lent;
+  fed = so-far-first c.start-stage.ensures c.args.memory.now.lent;
   line = omega (arith, ap line_of c.start-stage.ensures);
   read = omega arith;
   printed = omega arith;
