@@ -14,7 +14,7 @@ pub type Line = Result<[u32; 5], Malformed>;
 pub struct Malformed;
 
 // A line of which some bytes are read, whatever its length. `first` to `fourth` are the last four of its complete numbers, and `number`
-// is the one after them as far as it is read, once it has a digit.
+// is the one after them as far as it is read, once it has a digit. A line that is malformed stays so to its end, whatever else was read.
 #[derive(Clone, Copy)]
 pub struct Reader {
     first: u32,
