@@ -44,7 +44,11 @@ pub fn evacuate(
     ensures noted_2 { Noted p tables.new notes.new }
     ensures chains_after { chains.new ≡ with_chains p remember.new chains.old }
 {
-    let Epoch { thread, level, region } = epoch;
+    let Epoch {
+        thread,
+        level,
+        region,
+    } = epoch;
     let survivors = census::survivors::count_survivors(p, tables, list);
     let freed = layout::tables::count(p, tables, region as usize) - survivors;
     copy::copy_survivors(p, cells, tables, notes, list, come, thread, level);
@@ -139,6 +143,16 @@ pub fn evacuate_none(
     if objects != 0 {
         list_and_free(p, cells, remember, tables, chains, notes, epoch, objects);
     } else {
-        free_listed(p, cells, remember, tables, chains, notes, &[], epoch, objects);
+        free_listed(
+            p,
+            cells,
+            remember,
+            tables,
+            chains,
+            notes,
+            &[],
+            epoch,
+            objects,
+        );
     }
 }
