@@ -76,7 +76,7 @@ pub fn remember_slot(
     }
     let entries = p.entries;
     if was == 0 {
-        if entries <= layout::wide(layout::remember::used(remember)) {
+        if entries <= layout::remember::used(remember) as usize {
             return Err(Refusal::Entries);
         }
         let place = find_entry(entries, remember, at as u32);

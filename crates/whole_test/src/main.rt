@@ -25,8 +25,8 @@ fn say(rt: &impl Print, name: &str, accepted: bool) -> io::Result<()> {
 fn change(words: &mut [u32], changes: &[u32])
     ensures { words.new ≡ changed words.old changes.now (length changes.now / 2) }
 {
-    for i in 0..changes.len() / 2 {
-        put(words, changes[2 * i] as usize, changes[2 * i + 1]);
+    for pair in changes.chunks_exact(2) {
+        put(words, pair[0] as usize, pair[1]);
     }
 }
 
