@@ -13,7 +13,8 @@ ghost use Rattle.pages.specs.Noted.{Noted};
 use commands::Obeyed;
 use rules::{Answer, Command, Refusal, Sizes};
 
-// One command: what `commands` answers, the end of an epoch, or a collection, to which its thread means nothing.
+// One command: what `commands` answers, the end of an epoch, or a collection, to which its thread means nothing. The answer is two words, as C reads
+// them and as the rules give it.
 fn obey(
     p: Sizes,
     cells: &mut [u32],

@@ -11,7 +11,7 @@ ghost use Rattle.report.specs.Lent.{RegionOf, Asking, reported, written};
 use crate::{Reported, Row, next_open, row_count, row_of};
 use rules::Refusal;
 
-// The result of a refusal: no row is to be written.
+// The result of a refusal, as C reads it: no row is to be written.
 fn refused(number: u32) -> Reported
     ensures { result ≡ refusing number }
 {

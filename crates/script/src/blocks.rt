@@ -8,7 +8,7 @@ use crate::write::put_row;
 use crate::{Filled, Malformed, Reader, Step};
 
 // The commands of a buffer from a position on, behind the words that the block has already: up to the end of the buffer, until the
-// block has no room for another, or to the first malformed line.
+// block has no room for another, or to the first malformed line. The block is lent whole, since it is written behind the words that are used.
 pub fn read_block(text: &[u8], from: usize, r: Reader, block: &mut [u32], used: usize) -> Filled
     requires { used + 5 ≤ length block.old }
     ensures { Took r (drop from text.now) from block.old used result block.new }

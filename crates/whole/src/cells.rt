@@ -13,22 +13,12 @@ use layout::Kind;
 use remember::crossing::cross;
 use rules::Sizes;
 
-// Whether a cell's fields are zero, the first few left out. Two are read in a turn, for speed.
+// Whether a cell's fields are zero, the first few left out.
 pub fn zero_from(cells: &[u32], cell: usize, first: usize) -> bool
     requires { CellIn cell (length cells.now) }
     ensures { Says result (ZeroFrom cells.now cell first) }
 {
-    let mut f = first;
-    while f < layout::cells::FIELDS - 1 {
-        if layout::cells::field(cells, cell, f) != 0 {
-            return false;
-        }
-        if layout::cells::field(cells, cell, f + 1) != 0 {
-            return false;
-        }
-        f += 2;
-    }
-    if f < layout::cells::FIELDS {
+    for f in first..layout::cells::FIELDS {
         if layout::cells::field(cells, cell, f) != 0 {
             return false;
         }
@@ -37,7 +27,8 @@ pub fn zero_from(cells: &[u32], cell: usize, first: usize) -> bool
 }
 
 // Whether every cell in use is whole and as many slots cross as there are entries used, in one pass. A field that is a number may hold
-// any word, so it is not read. The first slot too many ends it.
+// any word, so it is not read. The first slot too many ends it. Loops over pages, cells and fields that a label is left by are the project's form of
+// a check that ends at the first word that breaks a condition.
 pub fn cells_whole(p: Sizes, cells: &[u32], tables: &[u32], entries: usize) -> bool
     requires room { Room p (length tables.now) }
     requires p_in_bounds { cells_words p ≤ length cells.now }

@@ -9,6 +9,7 @@ ghost use Rattle.whole.specs.Pages.{PageChecked};
 
 use rules::Sizes;
 
+// A `for`, and not `all` over the threads: as in `entries`.
 pub fn depths_whole(p: Sizes, tables: &[u32]) -> bool
     requires { Room p (length tables.now) }
     ensures { Says result (DepthsWhole p (tables_only tables.now)) }
