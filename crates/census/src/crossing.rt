@@ -96,7 +96,7 @@ pub fn own_on(p: Sizes, remember: &[u32], page: usize) -> usize
     find_entry(p.entries, remember, (first + 256) as u32) - low
 }
 
-// How many entries are of slots on the listed pages.
+// How many entries are of slots on the listed pages. A `for`: of `map` and `sum` over the list the bounds that each page asks stayed open.
 pub fn own_entries(p: Sizes, remember: &[u32], list: &[u32]) -> usize
     requires table { Table p.entries remember.now }
     requires entries_bound { (p.entries ≤ 4096) × (p.pages ≤ 1024) }

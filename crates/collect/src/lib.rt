@@ -55,7 +55,7 @@ fn collect_marked(
     retell::retell(p, cells, remember, tables);
 }
 
-// Collects the control space, for whichever thread asks: it is done. The notes are right of the tables (`Noted`, crate `pages`).
+// Collects the control space, for whichever thread asks: it is done, and the answer is two words, as C reads them. The notes are right of the tables (`Noted`, crate `pages`).
 pub fn collect(
     p: Sizes,
     cells: &mut [u32],

@@ -15,7 +15,7 @@ use crate::{Decoded, Obeyed};
 use rules::{Answer, Command, Sizes};
 
 // Every command but an end and a collection is answered here; of these two, which change nothing yet, the thread is given. The notes are
-// right of the tables (`Noted`, crate `pages`), and the chains are those of the remember table.
+// right of the tables (`Noted`, crate `pages`), and the chains are those of the remember table. The answer is two words, as C reads them.
 pub fn obey(
     p: Sizes,
     cells: &mut [u32],

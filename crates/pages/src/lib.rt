@@ -84,7 +84,7 @@ fn is_partly(p: Sizes, tables: &[u32], region: u32, page: usize) -> bool
         && layout::tables::used(p, tables, page) < layout::cells::CELLS as u32
 }
 
-// The highest-numbered free page below `high`.
+// The highest-numbered free page below `high`. A `for`: by `find` over the range, `free` stayed open.
 fn free_below(p: Sizes, tables: &[u32], high: usize) -> Option<usize>
     requires room { Room p (length tables.now) }
     requires high_le_pages { high ≤ p.pages }

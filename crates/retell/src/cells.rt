@@ -11,7 +11,7 @@ use layout::Kind;
 use rules::Sizes;
 use settle::rewrite::forward_ref;
 
-// The reference fields of a cell.
+// The reference fields of a cell: written, and told later, since cells still move (`settle_cell` does both).
 fn rewrite_cell(cells: &mut [u32], cell: usize)
     requires { CellReadable cell cells.old }
     ensures { Rewritten (Field cell (refs_of cells.old cell)) cells.old cells.new }

@@ -30,7 +30,8 @@ use remember::filter::filter_entries;
 use rules::Sizes;
 use sorting::order::order_entries;
 
-// The reference fields of a copy. Those that cross come after the first j entries; how many there are then.
+// The reference fields of a copy. Those that cross come after the first j entries; how many there are then. They are written and told in one pass, where a
+// collection writes all (`rewrite_cell`) and later tells all (`tell_cell`).
 pub fn settle_cell(
     p: Sizes,
     cells: &mut [u32],

@@ -8,7 +8,8 @@ ghost use Rattle.settle.specs.Touched.{NotOwn};
 use remember::entries::find_entry;
 use rules::Sizes;
 
-// The place of the first entry whose slot lies on a listed page, by halving once for each page; how many entries there are if none does.
+// The place of the first entry whose slot lies on a listed page, by halving once for each page; how many entries there are if none does,
+// since what is touched then begins behind them.
 pub fn first_own(p: Sizes, remember: &[u32], list: &[u32]) -> usize
     requires table { Table p.entries remember.now }
     requires rises { Rises p.pages (length list.now) list.now }

@@ -17,7 +17,8 @@ fn place_in(list: &[u32], k: usize) -> usize
     layout::cells::cell_on(page, k % layout::cells::CELLS)
 }
 
-// The kept cells of a page, where so many are before it. The answer is how many there are with its own.
+// The kept cells of a page, where so many are before it. The answer is how many there are with its own. As many as the
+// page's word has ones, the next one by trailing zeros.
 fn number_page(
     p: Sizes,
     cells: &mut [u32],

@@ -22,7 +22,7 @@ fn slide_cell(cells: &mut [u32], cell: usize)
     }
 }
 
-// The kept cells of listed page number `at`.
+// The kept cells of listed page number `at`: as many as its word has ones, the next one by trailing zeros.
 fn slide_page(p: Sizes, cells: &mut [u32], tables: &[u32], list: &[u32], at: usize)
     requires room { Room p (length tables.now) }
     requires p_in_bounds { cells_words p ≤ length cells.old }
