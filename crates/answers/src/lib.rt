@@ -9,7 +9,7 @@ ghost use Rattle.promises.specs.StandsFor.{StandsFor};
 ghost use Rattle.printed.specs.Printed.{running};
 ghost use Rattle.printed.specs.Pieces.{machine};
 ghost use Rattle.lines.specs.Lines.{Here, Holds};
-ghost use Rattle.lines.specs.Held.{held};
+ghost use Rattle.lines.specs.Held.{held, SameLent};
 ghost use Rattle.stages.specs.Stages.{Feeds, most_printed, Room};
 ghost use Rattle.answers.specs.Answers.{Answered, Counted};
 
@@ -21,15 +21,16 @@ use stages::Fed;
 fn answer(memory: &mut Memory, block: &[u32], used: usize, out: &mut [u8]) -> usize
     requires counted { Counted used block.now out.old }
     requires here { Here (held memory.old) }
-    ensures by_index { (s : Sizes) (h : Regioned) → (cell_of : ℕ → ℕ) → StandsFor s (held memory.old).words h cell_of → ChainsWhole s memory.old.remember memory.old.chains → Answered s h (take used block.now) (held memory.old) out.old result out.new (held memory.new) }
+    ensures by_index { (s : Sizes) (h : Regioned) → (cell_of : ℕ → ℕ) → StandsFor s (held memory.old).words h cell_of → ChainsWhole s memory.old.remember.now memory.old.chains.now → Answered s h (take used block.now) (held memory.old) out.old result out.new (held memory.new) }
     ensures upper_bound { result ≤ 22 * (used / 5) }
+    ensures same_lent { SameLent memory.old memory.new }
 {
     let mut answers = [0u32; 3278];
     heap::taldreku_run(
-        &mut memory.cells,
-        &mut memory.remember,
-        &mut memory.tables,
-        &mut memory.chains,
+        memory.cells,
+        memory.remember,
+        memory.tables,
+        memory.chains,
         &block[..used],
         &mut answers,
     );
@@ -50,6 +51,7 @@ pub fn obey(
     requires here { Here (held memory.old) }
     ensures feeds { (s : Sizes) (h : Regioned) → Holds (running s h line) (held memory.old) → Feeds (machine reader (running s h line)) (drop from text.now) (held memory.old) out.old result out.new (held memory.new) }
     ensures length_bound { result.length ≤ most_printed (length text.now) }
+    ensures same_lent { SameLent memory.old memory.new }
 {
     let mut block = [0u32; 8200];
     let filled = script::blocks::read_block(text, from, reader, &mut block, 0);

@@ -11,7 +11,7 @@ ghost use Rattle.report.specs.Tables.{WholeTables, rows_in};
 ghost use Rattle.script.specs.Writing.{Put};
 ghost use Rattle.printed.specs.Printed.{rows_text, reported};
 ghost use Rattle.lines.specs.Lines.{Here, Begun};
-ghost use Rattle.lines.specs.Held.{held};
+ghost use Rattle.lines.specs.Held.{held, SameLent};
 
 pub mod lent;
 
@@ -21,7 +21,8 @@ use script::{Line, Malformed};
 
 // Prepares the tables if a line has sizes that are accepted.
 pub fn prepare(line: Line, memory: &mut Memory) -> bool
-    ensures { Begun line (held memory.old) result (held memory.new) }
+    ensures begun { Begun line (held memory.old) result (held memory.new) }
+    ensures same_lent { SameLent memory.old memory.new }
 {
     match line {
         Ok(numbers) => {
@@ -32,10 +33,10 @@ pub fn prepare(line: Line, memory: &mut Memory) -> bool
                 depth,
                 pages,
                 entries,
-                &mut memory.cells,
-                &mut memory.remember,
-                &mut memory.tables,
-                &mut memory.chains,
+                memory.cells,
+                memory.remember,
+                memory.tables,
+                memory.chains,
             );
             number == 0
         }

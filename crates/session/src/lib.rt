@@ -5,7 +5,7 @@
 ghost use Rattle.std.specs.Prelude.{◌+◌, ◌<◌, ◌≤◌, length};
 ghost use Rattle.printed.specs.Printed.{opening};
 ghost use Rattle.printed.specs.Pieces.{Machine, machine};
-ghost use Rattle.lines.specs.Held.{held};
+ghost use Rattle.lines.specs.Held.{held, SameLent};
 ghost use Rattle.stages.specs.Stages.{At, Placed, line_of, Feeds, most_printed, Room};
 
 use lines::Memory;
@@ -17,6 +17,7 @@ fn begin(reader: Reader, text: &[u8], memory: &mut Memory, out: &mut [u8]) -> Fe
     requires room { Room text.now out.old }
     ensures feeds { Feeds (machine reader opening) text.now (held memory.old) out.old result out.new (held memory.new) }
     ensures length_bound { result.length ≤ most_printed (length text.now) }
+    ensures same_lent { SameLent memory.old memory.new }
 {
     let scan = script::read::read_line(text, 0, reader);
     match scan {
@@ -43,6 +44,7 @@ pub fn feed(stage: Stage, text: &[u8], memory: &mut Memory, out: &mut [u8]) -> F
     requires placed { Placed stage (held memory.old) }
     ensures feeds { (m : Machine) → At m stage (held memory.old) → Feeds m text.now (held memory.old) out.old result out.new (held memory.new) }
     ensures length_bound { result.length ≤ most_printed (length text.now) }
+    ensures same_lent { SameLent memory.old memory.new }
 {
     match stage {
         Stage::Opening(reader) => begin(reader, text, memory, out),

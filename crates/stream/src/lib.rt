@@ -197,11 +197,15 @@ pub fn serve(rt: &impl Eprint, input: &mut impl Read, output: &mut impl Write) -
     ensures { Serves result }
 {
     let mut text = [0u8; 16384];
+    let mut cells = [0u32; 8192];
+    let mut remember = [0u32; 2050];
+    let mut tables = [0u32; 760];
+    let mut chains = [0u32; 1153];
     let mut memory = Memory {
-        cells: [0; 8192],
-        remember: [0; 2050],
-        tables: [0; 760],
-        chains: [0; 1153],
+        cells: &mut cells,
+        remember: &mut remember,
+        tables: &mut tables,
+        chains: &mut chains,
     };
     let mut out = [0u8; 36084];
     go_on(rt, input, output, &mut text, &mut memory, &mut out)

@@ -35,4 +35,5 @@ returns c =
     let low : args.line + words-in.result / 5 < 18446744073709551616 = omega (arith, few.few, c.requires.room.1, room.piece) in record {
       feeds = λ s h l. obeyed read s h args.line words-in.result words-in.ensures (few-counted few (read-block.auto.block ∙ length-replicate {A = ℕ} 8200 0) room) (answer.ensures.by_index s h l.0 l.1 l.2) args.memory.now.lent (λ i n e. never room read-block.ensures (length-replicate {A = ℕ} 8200 0) e) (omega (arith, few.few, answer.ensures.upper_bound, room.text-room)) low proceed.ensures.proceeds;
       length_bound = omega (arith, few.few, answer.ensures.upper_bound, proceed.ensures.length_bound);
+      same_lent = answer.ensures.same_lent;
     }
