@@ -75,6 +75,16 @@ module _ (r : Reader) where
   unfolding end_of
   end-numbers m d e = simp (m, d, eq-eqb _ _ e)
 
+  -- ---- one byte
+
+  pub step-goes-on : (b : ℕ) → (b ≡ 10 → ⊥) → step_of r b ≡ More (next_of r b)
+  unfolding step_of
+  step-goes-on b n = simp (ne_eqb _ _ n)
+
+  pub step-ends : (b : ℕ) → b ≡ 10 → step_of r b ≡ Ended (end_of r)
+  unfolding step_of
+  step-ends b e = simp (eq-eqb _ _ e)
+
   -- ---- the end of the input
 
   pub last-fresh : r.malformed ≡ false → (digits r) ≡ false → r.complete ≡ 0 → last_of r ≡ None

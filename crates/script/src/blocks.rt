@@ -3,9 +3,9 @@ ghost use Rattle.std.specs.Prelude.{◌≡◌, ◌+◌, ◌*◌, ◌<◌, ◌≤
 ghost use Rattle.script.specs.Blocks.{Took, answer_line, stacked};
 ghost use Rattle.script.specs.Writing.{Put};
 
-use crate::read::{start, step};
+use crate::read::{end, read_byte, start};
 use crate::write::put_row;
-use crate::{Filled, Malformed, Reader, Step};
+use crate::{Filled, Reader};
 
 // The commands of a buffer from a position on, behind the words that the block has already: up to the end of the buffer, until the
 // block has no room for another, or to the first malformed line. The block is lent whole, since it is written behind the words that are used.
@@ -16,17 +16,18 @@ pub fn read_block(text: &[u8], from: usize, r: Reader, block: &mut [u32], used: 
     let mut reader = r;
     let mut n = used;
     for at in from..text.len() {
-        match step(reader, text[at]) {
-            Step::More(next) => reader = next,
-            Step::Ended(Ok(numbers)) => {
-                block[n..n + 5].copy_from_slice(&numbers);
-                n += 5;
-                reader = start();
-                if block.len() < n + 5 {
-                    return Filled::Full(at + 1, n);
-                }
+        if text[at] != b'\n' {
+            read_byte(&mut reader, text[at]);
+        } else {
+            let Ok(numbers) = end(reader) else {
+                return Filled::Broken(n);
+            };
+            block[n..n + 5].copy_from_slice(&numbers);
+            n += 5;
+            reader = start();
+            if block.len() < n + 5 {
+                return Filled::Full(at + 1, n);
             }
-            Step::Ended(Err(Malformed)) => return Filled::Broken(n),
         }
     }
     Filled::Done(reader, n)

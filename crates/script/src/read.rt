@@ -30,55 +30,51 @@ fn spoil() -> Reader
 
 // A space completes a number, which has a digit and is not the fifth.
 #[tactic(auto, unfolding(crate::specs::Reading::spaced))]
-fn read_space(r: Reader) -> Reader
-    ensures { result ≡ spaced r }
+fn read_space(r: &mut Reader)
+    ensures { r.new ≡ spaced r.old }
 {
     if let Some(number) = r.number {
         if r.complete < 4 {
-            return Reader {
-                first: r.second,
-                second: r.third,
-                third: r.fourth,
-                fourth: number,
-                complete: r.complete + 1,
-                number: None,
-                malformed: r.malformed,
-            };
+            r.first = r.second;
+            r.second = r.third;
+            r.third = r.fourth;
+            r.fourth = number;
+            r.complete += 1;
+            r.number = None;
+            return;
         }
     }
-    spoil()
+    *r = spoil();
 }
 
 #[tactic(auto, unfolding(crate::specs::Reading::digited))]
-fn read_digit(r: Reader, digit: u8) -> Reader
+fn read_digit(r: &mut Reader, digit: u8)
     requires { digit < 10 }
-    ensures { result ≡ digited r digit }
+    ensures { r.new ≡ digited r.old digit }
 {
     let value = 10 * r.number.unwrap_or(0) as u64 + digit as u64;
     if 4294967296 <= value {
-        return spoil();
-    }
-    Reader {
-        number: Some(value as u32),
-        ..r
+        *r = spoil();
+    } else {
+        r.number = Some(value as u32);
     }
 }
 
-// One more byte of the line, not its line feed.
+// One more byte of the line, not its line feed. The reader is changed in place: as a value that is handed on, each byte took a quarter more time.
 #[tactic(auto, unfolding(crate::specs::Reading::next_of))]
-fn read_byte(r: Reader, byte: u8) -> Reader
-    ensures { result ≡ next_of r byte }
+pub(crate) fn read_byte(r: &mut Reader, byte: u8)
+    ensures { r.new ≡ next_of r.old byte }
 {
     match byte {
         b' ' => read_space(r),
         b'0'..=b'9' => read_digit(r, byte - b'0'),
-        _ => spoil(),
+        _ => *r = spoil(),
     }
 }
 
 // The line ends here.
 #[tactic(auto, unfolding(crate::specs::Reading::end_of))]
-fn end(r: Reader) -> Line
+pub(crate) fn end(r: Reader) -> Line
     ensures { result ≡ end_of r }
 {
     if let Some(number) = r.number {
@@ -97,7 +93,9 @@ pub fn step(r: Reader, byte: u8) -> Step
     if byte == 10 {
         Step::Ended(end(r))
     } else {
-        Step::More(read_byte(r, byte))
+        let mut next = r;
+        read_byte(&mut next, byte);
+        Step::More(next)
     }
 }
 

@@ -2,11 +2,12 @@ use Rattle.std.proofs.Common.{ℕ, ◌+◌, ◌-◌, ◌≤◌, ◌≡◌, List,
 use Rattle.std.proofs.Math.Seq.{paste, paste-zero, paste-suc}
 use Rattle.std.proofs.lemmas.Slice.{put_mid-paste}
 use borrow.Rule.Slice.PartMut.{put_mid}
-use Rattle.script.specs.declared.Step.TheVariants.{Ended}
+use Rattle.script.specs.declared.Step.TheVariants.{More, Ended}
 use Rattle.script.specs.Blocks.{words_put}
+use Rattle.script.specs.ReadingCases.{step-goes-on, step-ends}
 use Rattle.script.specs.BlocksCases.{took, fill_more, fill-full, fill_on, fill-broken, fill_done}
 use Rattle.script.proofs.blocks.read_block.Goals as goal
-use Rattle.script.proofs.blocks.read_block.Goals.{in-More, in-Ended-Ok+else-block-n}
+use Rattle.script.proofs.blocks.read_block.Goals.{then-text-at-ne10, else-text-at-ne10+in-Ok+else-block-n}
 
 -- five numbers that are copied to the words from n on are put there one by one
 words-copied : (block ns part : List ℕ) (n k : ℕ) → part ≡ ns → k ≡ 5 → length ns ≡ 5 → n + 5 ≤ length block → put_mid n k block part ≡ words_put block n ns
@@ -20,16 +21,18 @@ words-copied block ns part n k e five long room =
 pub loop-at-preserved : goal.loop-at-preserved
 loop-at-preserved c =
     let inv = c.loop-at.invariant in
-    elim c.match-step.branch [
-      | in-More w ↦ simp (w.reader-is, w.block-is, w.n-is) (sym (fill_more _ _ _ _ _ c.loop-at-test.true _ (sym c.step.ensures ∙ w.in-More.is)) ∙ inv.0, inv.1)
-      | in-Ended-Ok+else-block-n w ↦
+    elim c.if-text-at-ne10.branch [
+      | then-text-at-ne10 w ↦
+          simp (w.reader-is, w.block-is, w.n-is)
+          (sym (fill_more _ _ _ _ _ c.loop-at-test.true _ (step-goes-on _ _ w.if-text-at-ne10.true ∙ ap More (sym w.read_byte.ensures))) ∙ inv.0, inv.1)
+      | else-text-at-ne10+in-Ok+else-block-n w ↦
           let copied = w.copy_from_slice.ensures in
           let n = c.loop-at.n in
           let five : n + 5 - n ≡ 5 = omega arith in
-          let long : length w.in-Ended-Ok.numbers ≡ 5 = omega (arith, inv.1, copied.len, ap length copied.after, length-take (n + 5 - n) (drop n c.loop-at.block), length-drop n c.loop-at.block) in
-          let put = words-copied c.loop-at.block w.in-Ended-Ok.numbers w.copy_from_slice.new.self n (n + 5 - n) copied.after five long inv.1 in
+          let long : length w.in-Ok.numbers ≡ 5 = omega (arith, inv.1, copied.len, ap length copied.after, length-take (n + 5 - n) (drop n c.loop-at.block), length-drop n c.loop-at.block) in
+          let put = words-copied c.loop-at.block w.in-Ok.numbers w.copy_from_slice.new.self n (n + 5 - n) copied.after five long inv.1 in
           simp (w.reader-is, w.block-is, w.n-is)
-          (sym (fill_on _ _ _ _ _ c.loop-at-test.true _ (sym c.step.ensures ∙ w.in-Ended-Ok.is ∙ ap Ended w.in-Ended-Ok.field-0-is) _ put w.if-block-n.false _ w.start-reader.ensures) ∙ inv.0, omega (arith, w.if-block-n.false))
+          (sym (fill_on _ _ _ _ _ c.loop-at-test.true _ (step-ends _ _ w.if-text-at-ne10.false ∙ ap Ended (sym w.end.ensures ∙ w.in-Ok.is)) _ put w.if-block-n.false _ w.start-reader.ensures) ∙ inv.0, omega (arith, w.if-block-n.false))
     ]
 
 pub returns-then-block-n : goal.returns-then-block-n
@@ -38,12 +41,12 @@ returns-then-block-n c =
     let copied = c.copy_from_slice.ensures in
     let n = c.loop-at.n in
     let five : n + 5 - n ≡ 5 = omega arith in
-    let long : length c.in-Ended-Ok.numbers ≡ 5 = omega (arith, inv.1, copied.len, ap length copied.after, length-take (n + 5 - n) (drop n c.loop-at.block), length-drop n c.loop-at.block) in
-    let put = words-copied c.loop-at.block c.in-Ended-Ok.numbers c.copy_from_slice.new.self n (n + 5 - n) copied.after five long inv.1 in
-    took (sym inv.0 ∙ fill-full _ _ _ _ _ c.loop-at-test.true _ (sym c.step.ensures ∙ c.in-Ended-Ok.is ∙ ap Ended c.in-Ended-Ok.field-0-is) _ put c.if-block-n.true)
+    let long : length c.in-Ok.numbers ≡ 5 = omega (arith, inv.1, copied.len, ap length copied.after, length-take (n + 5 - n) (drop n c.loop-at.block), length-drop n c.loop-at.block) in
+    let put = words-copied c.loop-at.block c.in-Ok.numbers c.copy_from_slice.new.self n (n + 5 - n) copied.after five long inv.1 in
+    took (sym inv.0 ∙ fill-full _ _ _ _ _ c.loop-at-test.true _ (step-ends _ _ c.if-text-at-ne10.false ∙ ap Ended (sym c.end.ensures ∙ c.in-Ok.is)) _ put c.if-block-n.true)
 
-pub returns-in-Ended-Err : goal.returns-in-Ended-Err
-returns-in-Ended-Err c = took (sym c.loop-at.invariant.0 ∙ fill-broken _ _ _ _ _ c.loop-at-test.true _ (sym c.step.ensures ∙ c.in-Ended-Err.is ∙ ap Ended c.in-Ended-Err.field-0-is))
+pub returns-in_default : goal.returns-in_default
+returns-in_default c = took (sym c.loop-at.invariant.0 ∙ fill-broken _ _ _ _ _ c.loop-at-test.true _ (step-ends _ _ c.if-text-at-ne10.false ∙ ap Ended (sym c.end.ensures ∙ c.in_default.is)))
 
 pub returns : goal.returns
 returns c = took (sym c.loop-at.invariant.0 ∙ fill_done _ _ _ _ _ c.loop-at-test.false)
