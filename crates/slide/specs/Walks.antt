@@ -80,6 +80,10 @@ module _ {w left : ℕ} {Done : ℕ → Type 0} (h : Walk w left Done) where
       gone-below j m (yes s) = ap (bit_at (left - 2 ^ count_trailing_zeros 32 left)) s ∙ clear-same (count_trailing_zeros 32 left) left (walk-bit l).on
       gone-below j m (no s) = clear-other (count_trailing_zeros 32 left) j left (walk-bit l).on s ∙ trailing-low 32 left j (omega arith)
 
+  -- less is left after each
+  pub walk-less : (left' : ℕ) → 0 < left → left' ≡ left - 2 ^ count_trailing_zeros 32 left → left' < left
+  walk-less left' l e = omega (arith, (walk-bit l).le, pow_pos (count_trailing_zeros 32 left))
+
   -- none is left
   pub walk-over : Passes w Done → left ≤ 0 → Done page_cells
   walk-over passes l =
