@@ -1,4 +1,4 @@
-use Rattle.std.proofs.Common.{◌≡◌, ◌<◌, ◌-◌, [], ◌∷◌, ◌++◌, ℕ, ap, arith, take, length, get_or-take, length-take-le}
+use Rattle.std.proofs.Common.{◌≡◌, ◌+◌, ◌<◌, ◌≤◌, ◌-◌, [], ◌∷◌, ◌++◌, ℕ, ap, arith, take, length, get_or-take, length-take-le}
 use Rattle.script.specs.Writing.{decimal}
 use Rattle.script.proofs.WritingLaws.{word-length, put-end, put-start, put-text, spaced_row, row-more, row-end}
 use Rattle.script.proofs.write.put_row.Goals as goal
@@ -30,7 +30,8 @@ pub put_then-requires : goal.put_then-requires
 put_then-requires c =
     let ns = c.args.numbers.now in
     let e : c.loop-x.x-index ≡ length ns - 1 = omega (arith, length-take-le (length ns - 1) ns (omega arith)) in
-    omega (arith, word-length _ (c.type_inv.numbers (length ns - 1)).fits)
+    let room : (n : ℕ) → n < 4_294_967_296 → c.loop-x.end + length (decimal n) + 1 ≤ length c.loop-x.out = λ n h. omega (arith, word-length n h) in
+    room _ (c.type_inv.numbers _).fits
 
 pub returns : goal.returns
 returns c =
