@@ -60,7 +60,7 @@ fn read_digit(r: &mut Reader, digit: u8)
     }
 }
 
-// One more byte of the line, not its line feed. The reader is changed in place: as a value that is handed on, each byte took a quarter more time.
+// One more byte of the line, not its line feed. The reader is changed in place: handed on by value it would be copied at each byte.
 #[tactic(auto, unfolding(crate::specs::Reading::next_of))]
 pub(crate) fn read_byte(r: &mut Reader, byte: u8)
     ensures { r.new ≡ next_of r.old byte }

@@ -4,7 +4,7 @@
 
 ghost use Rattle.std.specs.Prelude.{◌+◌, ◌<◌, ◌≤◌, ◌≡◌, length};
 ghost use Rattle.printed.specs.Pieces.{Machine};
-ghost use Rattle.lines.specs.Held.{held};
+ghost use Rattle.lines.specs.Held.{held, SameLent};
 ghost use Rattle.stages.specs.Stages.{At, Placed, line_of};
 ghost use Rattle.stream.specs.Turns.{Buffers, within, ending_of, goes_on, Advances, Turned, Serves};
 
@@ -82,6 +82,7 @@ fn advance(stage: Stage, piece: &[u8], memory: &mut Memory, out: &mut [u8]) -> F
     requires placed { Placed stage (held memory.old) }
     ensures advances { (m : Machine) → At m stage (held memory.old) → Advances m piece.now (held memory.old) out.old result out.new (held memory.new) }
     ensures length_bound { result.length ≤ 36084 }
+    ensures same_lent { SameLent memory.old memory.new }
 {
     if piece.len() == 0 {
         Fed {
@@ -132,6 +133,7 @@ fn turn(
     requires placed { Placed stage (held memory.old) }
     ensures turned { Turned stage (held memory.old) out.old result text.new out.new (held memory.new) }
     ensures read_in_bounds { (result.read ≤ length text.new) × (result.printed ≤ 36084) }
+    ensures same_lent { SameLent memory.old memory.new }
 {
     let piece = read_piece(rt, input, text);
     match piece {

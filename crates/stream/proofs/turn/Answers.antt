@@ -1,5 +1,6 @@
 -- What was read is fed, and what that prints is handed to the write.
 use Rattle.std.proofs.Common.{refl, ◌∙◌, arith, length-take, length-take-le}
+use Rattle.lines.specs.Held.{same-kept}
 use Rattle.stream.specs.Turns.{unread}
 use Rattle.stream.specs.Going.{bytes-short, turn_moved}
 use Rattle.stream.proofs.turn.Goals as goal
@@ -17,7 +18,7 @@ pub slice_bounds-print-end : goal.slice_bounds-print-end
 slice_bounds-print-end g c = omega (arith, c.advance-fed.ensures.length_bound, c.requires.buffers.0.text-room)
 
 pub returns-in-Err : goal.returns-in-Err
-returns-in-Err g c = record { turned = unread refl refl refl refl refl; read_in_bounds = (omega arith, omega arith) }
+returns-in-Err g c = record { turned = unread refl refl refl refl refl; read_in_bounds = (omega arith, omega arith); same_lent = same-kept c.args.memory.now }
 
 pub returns-in-Ok : goal.returns-in-Ok
 returns-in-Ok g c =
@@ -27,4 +28,5 @@ returns-in-Ok g c =
     record {
       turned = turn_moved printed.result.taken c.ending_at.ensures fed.ensures.advances length-is;
       read_in_bounds = (bytes-short c.in-Ok.is c.read_piece-piece.ensures, omega (arith, length-is, fed.ensures.length_bound));
+      same_lent = fed.ensures.same_lent;
     }
