@@ -30,8 +30,8 @@ pub put_then-requires : goal.put_then-requires
 put_then-requires c =
     let ns = c.args.numbers.now in
     let e : c.loop-x.x-index ≡ length ns - 1 = omega (arith, length-take-le (length ns - 1) ns (omega arith)) in
-    let room : (n : ℕ) → n < 4_294_967_296 → c.loop-x.end + length (decimal n) + 1 ≤ length c.loop-x.out = λ n h. omega (arith, word-length n h) in
-    room _ (c.type_inv.numbers _).fits
+    let room : (at n : ℕ) → at ≤ c.loop-x.end → n < 4_294_967_296 → at + length (decimal n) + 1 ≤ length c.loop-x.out = λ at n l h. omega (arith, l, word-length n h) in
+    room _ _ (omega arith) (c.type_inv.numbers _).fits
 
 pub returns : goal.returns
 returns c =
